@@ -20,9 +20,11 @@ BINDERS = (
     re.compile(r"(\w+) ←"),
 )
 ABOVE = r"^((?: *(?:///|#\[)[^\n]*\n)*)( *)(?:pub(?:\(\w+\))? )?(?:const )?fn (\w+)\b"
-# with its contract, which ends where the body begins, on a line of its own; without one the body begins on the first line
+# with its contract, which ends where the body begins, on a line of its own; without one the body begins on the line that ends
+# the parameters
 WITH_CONTRACT = re.compile(ABOVE + r"([^\n]*\n(?:(?!\2\{|\2\}).*\n)*)\2\{(|\n(?:(?!\2\}).*\n)*\2)\}", re.M)
 WITHOUT = re.compile(ABOVE + r"([^\n]*) \{(|[^\n]*|\n(?:(?!\2\}).*\n)*\2)\}$", re.M)
+OVER_LINES = re.compile(ABOVE + r"([^\n]*\(\n(?:\2 .*\n)+\2\)[^\n]*) \{(\n(?:(?!\2\}).*\n)*\2)\}$", re.M)
 CLAUSE = re.compile(r"^ *(?:ensures|requires) ", re.M)
 
 
@@ -73,6 +75,10 @@ class Module:
                 else:
                     self.blocks[name] += above + [line]
                     above = []
+
+    def fields(self, name: str) -> List[str]:
+        """The fields of a record."""
+        return [met.group(1) for met in map(FIELD.match, self.blocks[name]) if met]
 
     def code(self, name: str, without: Collection[str] = ()) -> List[str]:
         """The lines of a definition but for comments and the fields that are left out."""
@@ -172,7 +178,7 @@ class Source:
         self.functions = {one.name: one for one in self.read()}
 
     def read(self) -> Iterator[Function]:
-        for pattern in (WITHOUT, WITH_CONTRACT):
+        for pattern in (WITHOUT, OVER_LINES, WITH_CONTRACT):
             for found in pattern.finditer(self.text):
                 about, _, name, head, body = found.groups()
                 is_public = found.group().removeprefix(about).lstrip().startswith("pub")
@@ -280,6 +286,19 @@ def text_of(path: str) -> str:
 
 def crate_of(path: str) -> str:
     return path.split("/")[1]
+
+
+def reached_within(root: Place) -> Set[Place]:
+    """The definitions of its own crate that a definition reaches by these."""
+    found: Set[Place] = set()
+    left = [root]
+    while left:
+        place = left.pop()
+        if crate_of(place.path) == crate_of(root.path) and not place.is_type and place not in found:
+            if place.name in module(place.path).blocks:
+                found.add(place)
+                left += module(place.path).called(place.name)
+    return found
 
 
 def reached(roots: Iterable[Place]) -> Tuple[Set[Place], Set[Place]]:

@@ -1,19 +1,26 @@
-"""What guards a definition: laws, contracts, tests and edits that must be refused, which name it or reach it.
+"""What guards a definition, or a field of a record: laws, contracts, tests and edits that must be refused, which name it or reach it.
 
-A law or a contract names the definitions that its clauses have, and reaches those that these call. A test guards what the
-contracts of the functions name that it calls. An edit guards the definition that it changes, or, where it changes a function,
-what the function's contract names.
+A law or a contract names the definitions that its clauses have, and reaches those that these call. What the page cites is a law
+too, though its body reads a range. A test names what the contracts of the functions name that it calls, and an edit the
+definition that it changes, or, where it changes a function, what the function's contract names; both reach what these call
+in their own crates, since there the contract says it.
+
+A law guards a field of a record that its clauses name, or of one that they reach where what they reach names the field. A test
+or an edit guards the fields of each record that it names or reaches.
 """
 
 from __future__ import annotations
 
+import functools
 import os
-from typing import Dict, Iterable, Iterator, List, NamedTuple, Set, Tuple
+import re
+from typing import Collection, Dict, Iterable, Iterator, List, NamedTuple, Set, Tuple
 
-from definitions import TOP, Function, Place, all_sources, crate_of, module, reached, source, words_in
+from definitions import TOP, Function, Place, all_sources, crate_of, module, reached, reached_within, source, words_in
 from planted import FILE, OLD, lines_of, planted
 
 KINDS = ("law", "contract", "test", "edit")
+FIELD_KINDS = ("law", "test", "edit")
 SHOWN = 3
 
 
@@ -24,6 +31,13 @@ class Guard(NamedTuple):
     name: str
     named: Set[Place]
     found: Set[Place]
+
+
+class Field(NamedTuple):
+    """A field of a record."""
+
+    record: Place
+    name: str
 
 
 def title(one: Function) -> str:
@@ -39,7 +53,8 @@ def contracts() -> Dict[Tuple[str, str], Set[Place]]:
     }
 
 
-def all_guards() -> Iterator[Guard]:
+def all_guards(cited: Collection[Tuple[str, str]]) -> Iterator[Guard]:
+    """The guards; these functions are laws too, by their files and names, though they have a body that reads a range."""
     known = contracts()
     by_name: Dict[str, List[Tuple[str, str]]] = {}
     for path, name in known:
@@ -48,26 +63,33 @@ def all_guards() -> Iterator[Guard]:
         for one in of.functions.values():
             named = known[of.path, one.name]
             if one.is_test:
-                yield Guard("test", title(one), called(of.path, one, known, by_name), set())
+                yield by_crates("test", title(one), called(of.path, one, known, by_name))
             elif one.is_public and named:
-                yield Guard("law" if one.is_law else "contract", title(one), named, reached(named)[0])
+                is_law = one.is_law or (one.path, one.name) in cited
+                yield Guard("law" if is_law else "contract", title(one), named, reached(named)[0])
     for path in planted():
-        yield Guard("edit", os.path.relpath(path, os.path.join(TOP, "crates")), changed(path, known), set())
+        yield by_crates("edit", os.path.relpath(path, os.path.join(TOP, "crates")), changed(path, known))
+
+
+def by_crates(kind: str, name: str, named: Set[Place]) -> Guard:
+    """A guard that reaches no further than the crates of what it names."""
+    return Guard(kind, name, named, {other for place in named for other in reached_within(place)})
 
 
 def called(path: str, test: Function, known: Dict[Tuple[str, str], Set[Place]], by_name: Dict[str, List[Tuple[str, str]]]) -> Set[Place]:
-    """What the contracts of the functions name that a test calls, also by functions of its own file."""
+    """What the contracts of the functions name that a test calls, also by functions of its own file, in crates that it imports."""
     found: Set[Place] = set()
     seen: Set[str] = set()
     left = [test.body]
     own = source(path).functions
+    crates = set(re.findall(r"\bdpl_\w+(?=::)", source(path).text))
     while left:
         for word in set(words_in(left.pop().replace(".", " ").replace("::", " "))) - seen:
             seen.add(word)
             if word in own and not own[word].is_test:
                 left.append(own[word].body)
             for other in by_name.get(word, ()):
-                if other[0] != path and not known[other] <= found:
+                if crate_of(other[0]) in crates and not known[other] <= found:
                     found |= known[other]
     return found
 
@@ -91,14 +113,65 @@ def touched(path: str, text: str, known: Dict[Tuple[str, str], Set[Place]]) -> S
     return {place for one in own if text in one.head + one.body for place in known[path, one.name]}
 
 
-def listed(places: Iterable[Place], top: str) -> List[str]:
+def listed(places: Iterable[Place], top: str, cited: Collection[Tuple[str, str]]) -> List[str]:
     """A line for each definition, and one for each kind of guard that it has; the contract of the top call reaches them all."""
-    guards = sorted((guard for guard in all_guards() if guard.name != top), key=lambda guard: len(guard.found))
+    guards = sorted((guard for guard in all_guards(cited) if guard.name != top), key=lambda guard: len(guard.found))
+    fields = of_fields(places, guards)
     lines: List[str] = []
     for place in sorted(places):
         lines.append(f"{place.name} of {place.path}")
         lines += guarding(place, guards) or [f"    nothing but {top}, and so the samples"]
-    return [*lines, summary(set(places), guards)]
+        lines += [f"    its field {name}: {told_of(fields[Field(place, name)])}" for name in module(place.path).fields(place.name)]
+    return [*lines, summary(set(places), guards), field_summary(fields)]
+
+
+@functools.lru_cache(None)
+def mentioned(place: Place) -> Set[str]:
+    """The fields that a definition reads or gives, by their names: what stands behind a dot or before an equals sign."""
+    pairs = re.findall(r"\.(\w+)|\b(\w+)(?= =)", "\n".join(module(place.path).code(place.name)))
+    return {word for pair in pairs for word in pair if word}
+
+
+def guarded_fields(guard: Guard, records: Iterable[Place]) -> Set[Field]:
+    """The fields of these records that a law, a test or an edit guards."""
+    if guard.kind == "contract":
+        return set()
+    words = set().union(*map(mentioned, guard.found)) if guard.kind == "law" else set()
+    return {
+        Field(place, name)
+        for place in records
+        if place in guard.named or place in guard.found
+        for name in module(place.path).fields(place.name)
+        if guard.kind != "law" or place in guard.named or name in words
+    }
+
+
+def of_fields(places: Iterable[Place], guards: Iterable[Guard]) -> Dict[Field, List[Guard]]:
+    """The guards of each field of the records among these definitions."""
+    records = [place for place in sorted(places) if module(place.path).fields(place.name)]
+    found: Dict[Field, List[Guard]] = {Field(place, name): [] for place in records for name in module(place.path).fields(place.name)}
+    for guard in guards:
+        for field in guarded_fields(guard, records):
+            found[field].append(guard)
+    return found
+
+
+def told_of(found: Iterable[Guard]) -> str:
+    """The guards of a field, some of each kind."""
+    parts: List[str] = []
+    for kind in KINDS:
+        names = [guard.name for guard in found if guard.kind == kind]
+        if names:
+            parts.append(f"{kind} {', '.join(names[:SHOWN])}" + (f" and {len(names) - SHOWN} more" if len(names) > SHOWN else ""))
+    return "; ".join(parts) or "nothing"
+
+
+def field_summary(fields: Dict[Field, List[Guard]]) -> str:
+    """How many fields have guards of each kind, and those that have none."""
+    kinds = [{guard.kind for guard in found} for found in fields.values()]
+    told = ", ".join(f"{sum(kind in one for one in kinds)} by {'an' if kind == 'edit' else 'a'} {kind}" for kind in FIELD_KINDS)
+    bare = [f"{field.record.name}.{field.name}" for field, found in fields.items() if not found]
+    return f"{len(fields)} fields of records: {told}, {len(bare)} by none of these" + (f": {', '.join(bare)}" if bare else "")
 
 
 def guarding(place: Place, guards: Iterable[Guard]) -> List[str]:

@@ -73,10 +73,16 @@ class Rules(unittest.TestCase):
         self.assertTrue(told(["### A", "No law is needed."], "A"))
         self.assertFalse(told(["### A", "", "### B", "No law is needed."], "A"))
 
+    def test_doubles(self) -> None:
+        class Shown:
+            def shown(self) -> List[definitions.Place]:
+                return [BOX, BOX._replace(path="elsewhere"), CELLS]
+
+        self.assertEqual(list(tool.doubles(Shown())), [f"is_in_box is defined in {BOX.path} and elsewhere"])
+
     def test_words(self) -> None:
-        made = tool.Table(["word + -: of naturals", "twice a: b", "@ rest"])
+        made = tool.Table(["word + -: of naturals", "@ rest"])
         self.assertEqual(made.words, {"+": "of naturals", "-": ""})
-        self.assertEqual(made.twice, {"a": "b"})
 
 
 class Guards(unittest.TestCase):
@@ -87,6 +93,22 @@ class Guards(unittest.TestCase):
         self.assertEqual(guards.guarding(CELLS, [box]), [])
         told = "2 definitions: 1 named by a law, 1 named by a contract, 0 named by a test, 0 named by a edit, 0 by none of these"
         self.assertEqual(guards.summary({BOX, CELLS}, [box, cells]), told.replace("a edit", "an edit"))
+
+    def test_fields(self) -> None:
+        corners = definitions.Place("crates/dpl_cell/specs/Places.antt", "Corners")
+        field = guards.Field(corners, "x1")
+        law = guards.Guard("law", "boxes", {BOX}, {BOX, corners})
+        self.assertIn("x1", guards.mentioned(BOX))
+        self.assertIn(field, guards.guarded_fields(law, [corners]))
+        self.assertEqual(guards.guarded_fields(law._replace(found={corners}), [corners]), set())
+        self.assertEqual(guards.guarded_fields(law._replace(kind="contract"), [corners]), set())
+        found = guards.of_fields({corners, BOX}, [law._replace(kind="test")])
+        self.assertEqual(guards.told_of(found[field]), "test boxes")
+        told = "4 fields of records: 0 by a law, 4 by a test, 0 by an edit, 0 by none of these"
+        self.assertEqual(guards.field_summary(found), told)
+
+    def test_parameters_over_lines(self) -> None:
+        self.assertIn("compare_pairs", definitions.source("crates/dpl_graph_tests/src/plain.rt").functions)
 
     def test_edit_of_a_definition(self) -> None:
         line = next(line for line in definitions.module(BOX.path).blocks[BOX.name] if line.startswith("is_in_box"))

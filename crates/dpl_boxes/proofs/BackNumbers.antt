@@ -12,7 +12,7 @@ use Rattle.dpl_lex.specs.Number.{greatest, digits_value, of_magnitude, of_negate
 use Rattle.dpl_lex.specs.declared.number.Num.{Num}
 use Rattle.dpl_lex.specs.declared.number.Num.TheVariants.{Value, Big, Nothing}
 use Rattle.dpl_lex.proofs.Digits.{le_digits_value}
-use Rattle.dpl_rules.specs.Readers.{number_of, beyond}
+use Rattle.dpl_rules.specs.Readers.{number_at_front, beyond}
 use Rattle.dpl_boxes.specs.Written.{AreDigits, has_no_digit}
 use Rattle.dpl_boxes.proofs.NumberLemmas.{digits_value-behind}
 
@@ -125,15 +125,15 @@ pub record Digits (of : ℕ → Num) (bs : List ℕ) (z : ℤ) (rest : List ℕ)
   pub digit : is_digit first ≡ true
   pub all : list_all is_digit others ≡ true
   pub apart : has_no_digit rest ≡ true
-  pub found : number_of (of (digits_value 0 (first ∷ others))) rest ≡ Some (z, rest)
+  pub found : number_at_front (of (digits_value 0 (first ∷ others))) rest ≡ Some (z, rest)
 
-same_rest : (n : Num) (r rest : List ℕ) (z : ℤ) → number_of n r ≡ Some (z, rest) → r ≡ rest
+same_rest : (n : Num) (r rest : List ℕ) (z : ℤ) → number_at_front n r ≡ Some (z, rest) → r ≡ rest
 same_rest (Value y) r rest z h = let e : ◌≡◌ {A = ℤ × List ℕ} (y, r) (z, rest) = from_some (y, r) (z, rest) h in ap (λ (q : ℤ × List ℕ). q.1) e
 same_rest Big r rest z h = let e : ◌≡◌ {A = ℤ × List ℕ} (pos beyond, r) (z, rest) = from_some (pos beyond, r) (z, rest) h in ap (λ (q : ℤ × List ℕ). q.1) e
 same_rest Nothing r rest z h = absurd (cc)
 
 digits_there : (of : ℕ → Num) (b : ℕ) (bs : List ℕ) (z : ℤ) (rest : List ℕ) (s : Split is_digit bs) → is_digit b ≡ true
-    → number_of (of (digits_value (10 * 0 + (b - 48)) bs)) (drop_while is_digit bs) ≡ Some (z, rest) → Digits of (b ∷ bs) z rest
+    → number_at_front (of (digits_value (10 * 0 + (b - 48)) bs)) (drop_while is_digit bs) ≡ Some (z, rest) → Digits of (b ∷ bs) z rest
 digits_there of b bs z rest s e h =
     let r = same_rest (of (digits_value (10 * 0 + (b - 48)) bs)) (drop_while is_digit bs) rest z h in
     let same : s.rest ≡ rest = sym s.drop ∙ r in
@@ -153,11 +153,11 @@ digits_there of b bs z rest s e h =
     }
 
 pub digits_read : (of : ℕ → Num) (whole bs : List ℕ) (z : ℤ) (rest : List ℕ)
-    → number_of (digits_at of whole bs).0 (digits_at of whole bs).1 ≡ Some (z, rest) → Digits of bs z rest
+    → number_at_front (digits_at of whole bs).0 (digits_at of whole bs).1 ≡ Some (z, rest) → Digits of bs z rest
 digits_read of whole [] z rest h = absurd (cc)
 digits_read of whole (b ∷ bs) z rest h = (elim (is_digit b) as (λ t. is_digit b ≡ t → Digits of (b ∷ bs) z rest) [
   | true ↦ λ e. digits_there of b bs z rest (split is_digit bs) e (rw e at h)
-  | false ↦ λ e. let g : number_of Nothing whole ≡ Some (z, rest) = rw e at h in absurd (cc)
+  | false ↦ λ e. let g : number_at_front Nothing whole ≡ Some (z, rest) = rw e at h in absurd (cc)
 ]) refl
 
 -- a number within the bounds is no stand-in
@@ -180,13 +180,13 @@ pub record Stands (y : ℤ) (n : ℕ) (z : ℤ) : Type 0 where
 within : (n : ℕ) → nat_lt greatest n ≡ false → n ≤ greatest
 within n e = grind (arith, nat_tests)
 
-pub plain_stands : (n : ℕ) (z : ℤ) (rest : List ℕ) → unsigned_abs z ≤ greatest → number_of (of_magnitude n) rest ≡ Some (z, rest) → Stands (pos n) n z
+pub plain_stands : (n : ℕ) (z : ℤ) (rest : List ℕ) → unsigned_abs z ≤ greatest → number_at_front (of_magnitude n) rest ≡ Some (z, rest) → Stands (pos n) n z
 plain_stands n z rest l h = (elim (nat_lt greatest n) as (λ t. nat_lt greatest n ≡ t → Stands (pos n) n z) [
   | true ↦ λ e. absurd (too_big z rest l (rw e at h))
   | false ↦ λ e. record { few = within n e; same = same_value (pos n) z rest (rw e at h) }
 ]) refl
 
-pub minus_stands : (n : ℕ) (z : ℤ) (rest : List ℕ) → unsigned_abs z ≤ greatest → number_of (of_negated n) rest ≡ Some (z, rest) → Stands (pos 0 -ℤ pos n) n z
+pub minus_stands : (n : ℕ) (z : ℤ) (rest : List ℕ) → unsigned_abs z ≤ greatest → number_at_front (of_negated n) rest ≡ Some (z, rest) → Stands (pos 0 -ℤ pos n) n z
 minus_stands n z rest l h = (elim (nat_lt greatest n) as (λ t. nat_lt greatest n ≡ t → Stands (pos 0 -ℤ pos n) n z) [
   | true ↦ λ e. absurd (too_big z rest l (rw e at h))
   | false ↦ λ e. record { few = within n e; same = same_value (pos 0 -ℤ pos n) z rest (rw e at h) }

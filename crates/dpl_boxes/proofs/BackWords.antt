@@ -7,7 +7,7 @@ use Rattle.std.proofs.lemmas.Bool.Decides.{nat_tests}
 use Rattle.dpl_lex.specs.Classes.{is_blank, is_separator, drop_while}
 use Rattle.dpl_lex.specs.Number.{digits_value, of_magnitude, of_negated, digits_at, signed_digits_at}
 use Rattle.dpl_rules.specs.declared.command.Spot.{Spot}
-use Rattle.dpl_rules.specs.Readers.{◌>>=◌, number_of, letter, at_front, signed_of, unsigned_of, spot, spot_of}
+use Rattle.dpl_rules.specs.Readers.{◌>>=◌, number_at_front, letter, at_front, signed_of, unsigned_of, spot, spot_of}
 use Rattle.dpl_boxes.specs.Written.{Word, spot_words, is_moderate, AreDigits, IsSigned, IsSpelled, IsGap, AreBlanks, is_apart, AreBehind}
 use Rattle.dpl_boxes.specs.Written.Word.{Letters, Number, Integer}
 use Rattle.dpl_boxes.specs.Written.IsSigned.{plain, minus}
@@ -44,7 +44,7 @@ is_minus b t = grind (arith, nat_tests)
 
 without_minus : (gap bs whole : List ℕ) (z : ℤ) (rest : List ℕ) → is_moderate (Integer z) ≡ true
     → list_all is_separator gap ≡ true → whole ≡ gap ++ bs
-    → number_of (digits_at of_magnitude whole bs).0 (digits_at of_magnitude whole bs).1 ≡ Some (z, rest)
+    → number_at_front (digits_at of_magnitude whole bs).0 (digits_at of_magnitude whole bs).1 ≡ Some (z, rest)
     → Stood (Integer z) whole rest
 without_minus gap bs whole z rest m g e h =
     let d = digits_read of_magnitude whole bs z rest h in
@@ -61,7 +61,7 @@ without_minus gap bs whole z rest m g e h =
 
 behind_minus : (gap : List ℕ) (b : ℕ) (bs whole : List ℕ) (z : ℤ) (rest : List ℕ)
     → is_moderate (Integer z) ≡ true → list_all is_separator gap ≡ true → whole ≡ gap ++ (b ∷ bs) → b ≡ 45
-    → number_of (digits_at of_negated whole bs).0 (digits_at of_negated whole bs).1 ≡ Some (z, rest)
+    → number_at_front (digits_at of_negated whole bs).0 (digits_at of_negated whole bs).1 ≡ Some (z, rest)
     → Stood (Integer z) whole rest
 behind_minus gap b bs whole z rest m g e b45 h =
     let d = digits_read of_negated whole bs z rest h in
@@ -79,7 +79,7 @@ behind_minus gap b bs whole z rest m g e b45 h =
 
 signed_digits : (gap bs whole : List ℕ) (z : ℤ) (rest : List ℕ) → is_moderate (Integer z) ≡ true
     → list_all is_separator gap ≡ true → whole ≡ gap ++ bs
-    → number_of (signed_digits_at whole bs).0 (signed_digits_at whole bs).1 ≡ Some (z, rest)
+    → number_at_front (signed_digits_at whole bs).0 (signed_digits_at whole bs).1 ≡ Some (z, rest)
     → Stood (Integer z) whole rest
 signed_digits gap [] whole z rest m g e h = absurd (cc)
 signed_digits gap (b ∷ bs) whole z rest m g e h = (elim (b == 45) as (λ t. (b == 45) ≡ t → Stood (Integer z) whole rest) [
@@ -96,7 +96,7 @@ signed_stood text z rest m h =
 
 count_digits : (gap bs whole : List ℕ) (z : ℤ) (rest : List ℕ) → is_moderate (Number (unsigned_abs z)) ≡ true
     → list_all is_separator gap ≡ true → whole ≡ gap ++ bs
-    → number_of (digits_at of_magnitude whole bs).0 (digits_at of_magnitude whole bs).1 ≡ Some (z, rest)
+    → number_at_front (digits_at of_magnitude whole bs).0 (digits_at of_magnitude whole bs).1 ≡ Some (z, rest)
     → Stood (Number (unsigned_abs z)) whole rest
 count_digits gap bs whole z rest m g e h =
     let d = digits_read of_magnitude whole bs z rest h in
@@ -112,7 +112,7 @@ count_digits gap bs whole z rest m g e h =
     }
 
 count_from : (text : List ℕ) (p : ℤ × List ℕ) → is_moderate (Number (unsigned_abs p.0)) ≡ true
-    → number_of (digits_at of_magnitude text (drop_while is_separator text)).0 (digits_at of_magnitude text (drop_while is_separator text)).1 ≡ Some p
+    → number_at_front (digits_at of_magnitude text (drop_while is_separator text)).0 (digits_at of_magnitude text (drop_while is_separator text)).1 ≡ Some p
     → Stood (Number (unsigned_abs p.0)) text p.1
 count_from text p m h =
     let s = split is_separator text in

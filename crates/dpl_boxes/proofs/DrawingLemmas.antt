@@ -19,9 +19,10 @@ use Rattle.dpl_cif.specs.Drawn as cif
 use Rattle.dpl_calls.specs.declared.figure.Corner.{Corner}
 use Rattle.dpl_calls.specs.declared.figure.Figure.{Figure}
 use Rattle.dpl_calls.specs.declared.figure.Figure.TheVariants as figure
-use Rattle.dpl_calls.specs.Parts.{Part, Bodies, parts_of, parts_from, where_true, transformed_by}
+use Rattle.dpl_calls.specs.Parts.{Part, Bodies, parts_of, parts_from, transformed_by}
+use Rattle.dpl_calls.specs.Put.{where_true}
 use Rattle.dpl_calls.specs.Parts.Part.{Drawn, Called}
-use Rattle.dpl_calls.specs.Unfolding.{figures_of, part_figures, placed, unmoved}
+use Rattle.dpl_calls.specs.Unfolding.{figures_of, part_figures, placed}
 use Rattle.dpl_boxes.specs.Lines.{Line, said, comment_line}
 use Rattle.dpl_boxes.specs.MaskLines.{box_form, box_line, last_lines, lines_of_mask, lines_of_definition, lines_of_masks}
 use Rattle.dpl_boxes.proofs.QuarterLemmas.{extent_of, scaled_extent-box}
@@ -87,7 +88,7 @@ call_of_masks chosen comments layer on_a on_b =
 
 -- the call of the definition leaves each point where it is
 abbrev pub still : Corner → Corner
-still c = unmoved (transformed_by one_to_one [] c)
+still c = transformed_by one_to_one [] c
 
 outline-still : (b : Corners) → IsRectangle b → cif.drawn (placed still (figure.Rectangle (extent_of b))) ≡ outlines.Box b
 outline-still b r = rw (min_is b.x1 b.x2 r.columns.some, min_is b.y1 b.y2 r.rows.some, max_is b.x1 b.x2 r.columns.some, max_is b.y1 b.y2 r.rows.some) refl
@@ -112,7 +113,7 @@ outlines_where bodies inner false boxes h = refl
 -- one call of the definition, and nothing else
 outlines_of_call : (bodies : Bodies) (depth : ℕ) (one other : Bool) (on_a on_b : List Corners) → All IsRectangle on_a → All IsRectangle on_b
     → bodies None ≡ Called 1 (transformed_by one_to_one []) ∷ [] → bodies (Some 1) ≡ where_true one (map box_part on_a) ++ where_true other (map box_part on_b)
-    → map cif.drawn (figures_of (suc (suc depth)) bodies unmoved (bodies None)) ≡ boxes_where one on_a ++ boxes_where other on_b
+    → map cif.drawn (figures_of (suc (suc depth)) bodies (λ c. c) (bodies None)) ≡ boxes_where one on_a ++ boxes_where other on_b
 outlines_of_call bodies depth one other on_a on_b a b call parts =
     let read = part_figures bodies (figures_of depth bodies) still in
     let first = where_true one (map box_part on_a) in
@@ -131,7 +132,7 @@ outlines_of_call bodies depth one other on_a on_b a b call parts =
 pub outlines_of_masks : (chosen : List ℕ) (comments : List (List ℕ)) (layer : List ℕ) (on_a on_b : List Corners)
     (depth : ℕ) → All IsRectangle on_a → All IsRectangle on_b
     → (let bodies = parts_from chosen at_first (map said (lines_of_masks comments layer on_a on_b)) in
-    map cif.drawn (figures_of (suc (suc depth)) bodies unmoved (bodies None)))
+    map cif.drawn (figures_of (suc (suc depth)) bodies (λ c. c) (bodies None)))
     ≡ boxes_where (bytes_eq (layer ++ codes "A") chosen) on_a ++ boxes_where (bytes_eq (layer ++ codes "B") chosen) on_b
 outlines_of_masks chosen comments layer on_a on_b depth a b =
     outlines_of_call (parts_from chosen at_first (map said (lines_of_masks comments layer on_a on_b))) depth

@@ -9,7 +9,7 @@ use Rattle.dpl_rules.specs.declared.command.Command.TheVariants.{Idle, Polygon, 
 use Rattle.dpl_boxes.proofs.NumberLemmas.{negated}
 use Rattle.dpl_boxes.specs.Written as written
 use Rattle.dpl_boxes.specs.Written.{Word, words_of, IsSigned, IsSpelled, AreBlanks, IsGap, is_apart, AreBehind}
-use Rattle.dpl_boxes.specs.Written.{AreWords, HasForm, can_be_written, IsLayout, plain_word, spaced, plain_layout}
+use Rattle.dpl_boxes.specs.Written.{AreWords, HasForm, can_be_written, IsLayout, plain_word, spaced_words, plain_layout}
 use Rattle.dpl_boxes.specs.Written.Word.{Letters, Number, Integer}
 use Rattle.dpl_boxes.specs.Written.IsSigned.{plain, minus}
 use Rattle.dpl_boxes.specs.Written.IsIdle.{empty}
@@ -48,11 +48,11 @@ spaced_are_behind v (w ∷ ws) = (
   spaced_are_behind w ws,
 )
 
-spaced_are_words : (ws : List Word) → AreWords ws (spaced ws)
+spaced_are_words : (ws : List Word) → AreWords ws (spaced_words ws)
 spaced_are_words [] = refl
 spaced_are_words (w ∷ ws) = (plain_word w, spaced_behind ws, plain_is_spelled w, refl, spaced_are_behind w ws)
 
-spaced_has_form : (c : Command) → HasForm c (spaced (words_of false c))
+spaced_has_form : (c : Command) → HasForm c (spaced_words (words_of false c))
 spaced_has_form Idle = empty
 spaced_has_form (Polygon path) = (false, spaced_are_words (words_of false (Polygon path)))
 spaced_has_form (Box b) = (false, spaced_are_words (words_of false (Box b)))
@@ -69,7 +69,7 @@ layout_behind : (gap : List ℕ) (cs : List Command) → AreBlanks gap → list_
 layout_behind gap [] b w = (gap, [], b, refl)
 layout_behind gap (c ∷ cs) b w =
     let p = and_parts (can_be_written c) (list_all can_be_written cs) w in
-    let bytes = spaced (words_of false c) in
+    let bytes = spaced_words (words_of false c) in
     let split : gap ++ plain_layout (c ∷ cs) ≡ gap ++ (bytes ++ (59 ∷ (10 ∷ plain_layout cs))) = simp append_assoc in
     (gap, bytes, 10 ∷ plain_layout cs, b, p.0, spaced_has_form c, split, layout_behind (10 ∷ []) cs refl p.1)
 

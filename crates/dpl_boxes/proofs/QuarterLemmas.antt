@@ -6,7 +6,7 @@ use Rattle.dpl_cell.specs.Places.{Corners}
 use Rattle.dpl_cell.specs.Ranges.{IsRectangle}
 use Rattle.dpl_rules.specs.declared.figures.Extent.{Extent}
 use Rattle.dpl_rules.specs.Figures.{double, less, more, is_on_grid, scaled, is_extent_on_grid, box_extent}
-use Rattle.dpl_calls.specs.Parts.{scaled_extent}
+use Rattle.dpl_calls.specs.Put.{scaled_extent}
 use Rattle.dpl_boxes.specs.MaskLines.{quarters, box_form}
 
 quarter : (x : ℤ) → (int_rem ((pos 4 *ℤ x) *ℤ pos 1) (pos 4) ≡ pos 0) × (int_div ((pos 4 *ℤ x) *ℤ pos 1) (pos 4) ≡ x)

@@ -5,7 +5,7 @@ use Rattle.std.specs.List.{list_all}
 use Rattle.std.specs.Fmt.{decimal, signed_decimal}
 use Rattle.dpl_lex.specs.Classes.{is_blank, is_digit, is_separator}
 use Rattle.dpl_lex.specs.Name.{is_name}
-use Rattle.dpl_lex.specs.CuttingLaws.{is_inside, IsNested}
+use Rattle.dpl_lex.specs.CuttingLaws.{IsNested}
 use Rattle.dpl_lex.specs.declared.types.Ending.TheVariants.{End}
 use Rattle.dpl_rules.specs.declared.command.Spot.{Spot}
 use Rattle.dpl_rules.specs.declared.command.Scale.{Scale}
@@ -121,13 +121,13 @@ AreWords [] text = text ≡ []
 AreWords (w ∷ ws) text = (bytes rest : List ℕ) × IsSpelled w bytes
     × (text ≡ bytes ++ rest) × AreBehind w ws rest
 
--- what does nothing: an empty command, a comment, a user extension
+-- what does nothing: an empty command, a comment, a user extension, which has no semicolon
 pub data IsIdle : List ℕ → Type 0 where
   empty : IsIdle []
   comment : (inner gap : List ℕ) → IsNested inner → AreBlanks gap →
       IsIdle (codes "(" ++ (inner ++ (codes ")" ++ gap)))
   extension : (digit : ℕ) (others : List ℕ) → is_digit digit ≡ true →
-      list_all is_inside others ≡ true → IsIdle (digit ∷ others)
+      list_all (λ b. not (b == 59)) others ≡ true → IsIdle (digit ∷ others)
 
 -- the bytes of a command without its semicolon
 abbrev pub HasForm : Command → List ℕ → Type 0
@@ -162,13 +162,13 @@ plain_word (Number n) = decimal n
 plain_word (Integer z) = signed_decimal z
 
 -- words with a space between them
-abbrev pub spaced : List Word → List ℕ
-spaced [] = []
-spaced (w ∷ ws) = plain_word w ++ flat_map (λ v. codes " " ++ plain_word v) ws
+abbrev pub spaced_words : List Word → List ℕ
+spaced_words [] = []
+spaced_words (w ∷ ws) = plain_word w ++ flat_map (λ v. codes " " ++ plain_word v) ws
 
 -- commands in their full spelling, each in a line of its own
 abbrev pub plain_layout : List Command → List ℕ
-plain_layout cs = flat_map (λ c. spaced (words_of false c) ++ codes ";\n") cs ++ codes "E"
+plain_layout cs = flat_map (λ c. spaced_words (words_of false c) ++ codes ";\n") cs ++ codes "E"
 
 -- a law: that is a layout
 abbrev pub PlainLayoutsAreLayouts : Type 0

@@ -12,7 +12,7 @@ use Rattle.dpl_calls.specs.declared.placement.Placement.{Placement}
 use Rattle.dpl_calls.specs.declared.table.CallSite.{CallSite}
 use Rattle.dpl_calls.specs.declared.table.Table.{Table}
 use Rattle.dpl_calls.specs.Loops.{names}
-use Rattle.dpl_calls.specs.Table.{part_of, entries_of, bodies_of}
+use Rattle.dpl_calls.specs.Table.{entry_part, entries_of, bodies_of}
 use Rattle.dpl_calls.specs.Put.{site_in}
 use Rattle.dpl_calls.specs.Found.{IsSite, call_in, calls_in}
 use Rattle.dpl_calls.proofs.Cases.{to_eq}
@@ -28,10 +28,10 @@ no_call (Ok u) before after at c none h = λ place. h place ∙
 no_call (Err e) before after at c none h = tt
 
 named_in : (es : List Entry) (k : ℕ) (x : Entry) (at n : ℕ) (p : Placement) → k < length es
-    → get_or es k x ≡ Called at n p → list_any (names n) (map part_of es) ≡ true
+    → get_or es k x ≡ Called at n p → list_any (names n) (map entry_part es) ≡ true
 named_in [] k x at n p h e = absurd (omega arith)
-named_in (y ∷ es) zero x at n p h e = rw e (or_left (n == n) (list_any (names n) (map part_of es)) (to_eq n n refl))
-named_in (y ∷ es) (suc k) x at n p h e = or_right (names n (part_of y)) (list_any (names n) (map part_of es)) (named_in es k x at n p (omega arith) e)
+named_in (y ∷ es) zero x at n p h e = rw e (or_left (n == n) (list_any (names n) (map entry_part es)) (to_eq n n refl))
+named_in (y ∷ es) (suc k) x at n p h e = or_right (names n (entry_part y)) (list_any (names n) (map entry_part es)) (named_in es k x at n p (omega arith) e)
 
 -- an entry that is a call is one of its definition
 pub entry_fits : (t : Table) (definition : Option ℕ) (k : ℕ) (x : Entry)
@@ -42,5 +42,5 @@ entry_fits t definition k x h = by (get_or (entries_of t definition) k x) refl
     by : (e : Entry) → get_or (entries_of t definition) k x ≡ e → All (IsSite (bodies_of t)) (call_in definition e)
     by (Drawn figure) e j d l = absurd (omega arith)
     by (Called at n p) e zero d l = λ m em. subst (λ (o : Option ℕ). list_any (names n)
-        (map part_of (entries_of t o)) ≡ true) em (named_in (entries_of t definition) k x at n p h e)
+        (map entry_part (entries_of t o)) ≡ true) em (named_in (entries_of t definition) k x at n p h e)
     by (Called at n p) e (suc j) d l = absurd (omega arith)

@@ -20,12 +20,13 @@ use Rattle.dpl_rules.specs.declared.what.What.{What}
 use Rattle.dpl_rules.specs.declared.what.What.TheVariants.{Nest, Twice, Angle, Layerless, Slant, OffGrid, Round, Delete as DeleteRule, Scale as ScaleRule}
 use Rattle.dpl_rules.specs.Bounds.{is_in_bounds, is_spot_in_bounds, is_command_in_bounds}
 use Rattle.dpl_rules.specs.Figures.{IsScale, double, less, more, around, box_extent, leg, legs, legs_from, scaled}
-use Rattle.dpl_rules.specs.Figures.{is_on_grid, is_extent_on_grid, eq_z, is_slanted, slants_from, slants_round, last_of}
+use Rattle.dpl_rules.specs.Figures.{is_on_grid, is_extent_on_grid, eq_z, is_slanted, slants_from, slants_round, last_spot}
 use Rattle.dpl_rules.specs.Rules.{Fault, rule_fault, or_later, broken_rule, breaks_nest, breaks_twice, breaks_angle}
 use Rattle.dpl_rules.specs.Rules.{breaks_layerless, breaks_slant, breaks_off_grid, breaks_round, breaks_delete}
-use Rattle.dpl_rules.specs.Rules.{breaks_scale, first_of, after, with_start, is_chosen}
+use Rattle.dpl_rules.specs.Rules.{breaks_scale, first_broken, after, with_start, is_chosen}
 use Rattle.dpl_calls.specs.declared.figure.Figure.TheVariants as figure
-use Rattle.dpl_calls.specs.Parts.{Part, is_same, where_true, scaled_extent, scaled_corner, rectangle, parts_of, parts_from}
+use Rattle.dpl_calls.specs.Parts.{Part, is_same, scaled_corner, rectangle, parts_of, parts_from}
+use Rattle.dpl_calls.specs.Put.{where_true, scaled_extent}
 use Rattle.dpl_calls.specs.Kept.{IsLevel, AreLevel, HasLevelSides, IsSound, IsPartKept}
 use Rattle.dpl_calls.proofs.Cases.{of_eq}
 use Rattle.dpl_calls.proofs.Nearness.{in_bounds_le}
@@ -39,7 +40,7 @@ use Rattle.std.proofs.lemmas.Bool.{and_parts, not-false, not-true, or_parts}
 
 -- no rule of nine is broken
 nine : (a b c d e f g h i : Bool) (w1 w2 w3 w4 w5 w6 w7 w8 w9 : What)
-    → first_of ((a, w1) ∷ (b, w2) ∷ (c, w3) ∷ (d, w4) ∷ (e, w5) ∷ (f, w6) ∷ (g, w7) ∷ (h, w8) ∷ (i, w9) ∷ []) ≡ None
+    → first_broken ((a, w1) ∷ (b, w2) ∷ (c, w3) ∷ (d, w4) ∷ (e, w5) ∷ (f, w6) ∷ (g, w7) ∷ (h, w8) ∷ (i, w9) ∷ []) ≡ None
     → (e ≡ false) × (f ≡ false) × (i ≡ false)
 nine true b c d e f g h i w1 w2 w3 w4 w5 w6 w7 w8 w9 n = cc
 nine false true c d e f g h i w1 w2 w3 w4 w5 w6 w7 w8 w9 n = cc
@@ -115,7 +116,7 @@ level s p q h = elim (and_false (eq_z p.x q.x) (eq_z p.y q.y) h) [
 ]
 
 levels : (s : Scale) (p : Spot) (ps : List Spot) (last : Spot) → slants_from p ps ≡ false
-    → is_slanted (last_of p ps) last ≡ false
+    → is_slanted (last_spot p ps) last ≡ false
     → AreLevel (scaled_corner s p) (map (scaled_corner s) ps) (scaled_corner s last)
 levels s p [] last h k = level s p last k
 levels s p (q ∷ qs) last h k =
@@ -125,7 +126,7 @@ levels s p (q ∷ qs) last h k =
 polygon_sound : (s : Scale) (path : List Spot) → slants_round path ≡ false → HasLevelSides (map (scaled_corner s) path)
 polygon_sound s [] h = tt
 polygon_sound s (p ∷ ps) h =
-    let f = or_parts (slants_from p ps) (is_slanted (last_of p ps) p) h in
+    let f = or_parts (slants_from p ps) (is_slanted (last_spot p ps) p) h in
     levels s p ps p f.0 f.1
 
 -- ---- the parts of a command

@@ -13,7 +13,7 @@ use Rattle.dpl_calls.specs.Parts.Part.{Drawn, Called}
 use Rattle.dpl_calls.specs.Loops.{names}
 use Rattle.dpl_calls.specs.Totals.{own_calls}
 use Rattle.dpl_calls.specs.Table.{bodies_of}
-use Rattle.dpl_calls.specs.Places.{place_of, body_at, graph_of}
+use Rattle.dpl_calls.specs.Places.{place_among, body_at, graph_of}
 use Rattle.dpl_calls.specs.Counted.{HasNoLoop}
 use Rattle.dpl_calls.specs.Unfolding.{placed, part_figures, figures_of}
 use Rattle.dpl_calls.proofs.Cases.{to_eq}
@@ -52,10 +52,10 @@ module _ (t : Table) (labels heads : List ℕ) (G : AreGroups (graph_of t) label
   settled : (j x : ℕ) (place : Corner → Corner) → get_or labels x 0 < j → figures_of j b place (body_at t x) ≡ figures_of (suc j) b place (body_at t x)
   settled zero x place h = absurd (omega arith)
   settled (suc j) x place h = figures_same b (figures_of j b) (figures_of (suc j) b) place (body_at t x)
-      (λ m c f. by m c f (place_of m (keys t.definitions)) refl (λ y l. settled j y f l))
+      (λ m c f. by m c f (place_among m (keys t.definitions)) refl (λ y l. settled j y f l))
     where
       by : (m : ℕ) → list_any (names m) (body_at t x) ≡ true → (f : Corner → Corner) → (o : Option ℕ) →
-          place_of m (keys t.definitions) ≡ o → ((y : ℕ) → get_or labels y 0 < j →
+          place_among m (keys t.definitions) ≡ o → ((y : ℕ) → get_or labels y 0 < j →
           figures_of j b f (body_at t y) ≡ figures_of (suc j) b f (body_at t y)) →
           figures_of j b f (b (Some m)) ≡ figures_of (suc j) b f (b (Some m))
       by m c f None e ih = rw (body_absent t m e) (figures_nil b j f ∙ sym (figures_nil b (suc j) f))
@@ -65,9 +65,9 @@ module _ (t : Table) (labels heads : List ℕ) (G : AreGroups (graph_of t) label
 
   -- and what stands outside definitions is no deeper than there are definitions
   one_deeper : (k : ℕ) (place : Corner → Corner) (parts : List Part) → count ≤ k → figures_of (suc k) b place parts ≡ figures_of (suc (suc k)) b place parts
-  one_deeper k place parts h = figures_same b (figures_of k b) (figures_of (suc k) b) place parts (λ m c f. by m f (place_of m (keys t.definitions)) refl)
+  one_deeper k place parts h = figures_same b (figures_of k b) (figures_of (suc k) b) place parts (λ m c f. by m f (place_among m (keys t.definitions)) refl)
     where
-      by : (m : ℕ) (f : Corner → Corner) → (o : Option ℕ) → place_of m (keys t.definitions) ≡ o →
+      by : (m : ℕ) (f : Corner → Corner) → (o : Option ℕ) → place_among m (keys t.definitions) ≡ o →
           figures_of k b f (b (Some m)) ≡ figures_of (suc k) b f (b (Some m))
       by m f None q = rw (body_absent t m q) (figures_nil b k f ∙ sym (figures_nil b (suc k) f))
       by m f (Some y) q =

@@ -10,7 +10,8 @@ use Rattle.dpl_rules.specs.declared.figures.Extent.{Extent}
 use Rattle.dpl_rules.specs.Bounds.{is_in_bounds, is_spot_in_bounds, is_command_in_bounds}
 use Rattle.dpl_rules.specs.Figures.{IsScale, less, more, around, box_extent, leg}
 use Rattle.dpl_calls.specs.declared.figure.Figure.TheVariants.{Rectangle}
-use Rattle.dpl_calls.specs.Parts.{scaled_corner, scaled_extent}
+use Rattle.dpl_calls.specs.Parts.{scaled_corner}
+use Rattle.dpl_calls.specs.Put.{scaled_extent}
 use Rattle.dpl_calls.specs.Placement.{IsCornerNear}
 use Rattle.dpl_calls.specs.Kept.{IsFigureNear}
 use Rattle.dpl_calls.proofs.Nearness.{min_near, max_near, less_near, more_near, scaled_near, in_bounds_le, spot_near}

@@ -15,7 +15,7 @@ use Rattle.dpl_rules.specs.declared.command.Spot.{Spot}
 use Rattle.dpl_rules.specs.declared.command.Transformation.{Transformation}
 use Rattle.dpl_rules.specs.declared.what.What.{What}
 use Rattle.dpl_rules.specs.declared.what.What.TheVariants.{Syntax, Number}
-use Rattle.dpl_rules.specs.Readers.{◌>>=◌, complete, repeated, and_repeated, not_empty, number_of, unsigned_of, spot_of, letter}
+use Rattle.dpl_rules.specs.Readers.{◌>>=◌, complete, repeated, and_repeated, not_empty, number_at_front, unsigned_of, spot_of, letter}
 use Rattle.dpl_rules.specs.Forms as f
 use Rattle.dpl_rules.specs.Forms.{transformation_of, form_of}
 use Rattle.dpl_rules.specs.Bounds.{is_command_in_bounds, bounded, command_of, read_commands}
@@ -79,7 +79,7 @@ abbrev LeIf : ℕ → Option (ℕ × List ℕ) → Type 0
 LeIf m None = Unit {0}
 LeIf m (Some x) = length x.1 ≤ m
 
-taken_le : (n : Num) (rest : List ℕ) (m : ℕ) → length rest ≤ m → LeIf m (number_of n rest >>= λ z. Some (unsigned_abs z.0, z.1))
+taken_le : (n : Num) (rest : List ℕ) (m : ℕ) → length rest ≤ m → LeIf m (number_at_front n rest >>= λ z. Some (unsigned_abs z.0, z.1))
 taken_le (Value z) rest m h = h
 taken_le Big rest m h = h
 taken_le Nothing rest m h = tt

@@ -13,11 +13,11 @@ use Rattle.dpl_calls.specs.declared.entry.Entry.TheVariants as entry
 use Rattle.dpl_calls.specs.declared.unfolding.Frame.{Frame}
 use Rattle.dpl_calls.specs.Parts.{Bodies}
 use Rattle.dpl_calls.specs.Parts.Part.{Drawn, Called}
-use Rattle.dpl_calls.specs.Unfolding.{placed, unmoved, part_figures, figures_of}
+use Rattle.dpl_calls.specs.Unfolding.{placed, part_figures, figures_of}
 use Rattle.dpl_calls.specs.Totals.{part_total, total_of, own_calls}
 use Rattle.dpl_calls.specs.Placement.{apply, IsNear}
 use Rattle.dpl_calls.specs.Entries.{IsEntryNear}
-use Rattle.dpl_calls.specs.Table.{part_of}
+use Rattle.dpl_calls.specs.Table.{entry_part}
 use Rattle.dpl_calls.specs.Kept.{IsFigureNear, IsPartKept}
 use Rattle.dpl_calls.specs.Stack.{left, frame_figures, pending, part_turns, turns_of, frame_turns, turns_left, frame_calls, calls_left, IsFrameNear, Goes}
 use Rattle.dpl_calls.proofs.Pending.{pending_push, pending_append, called_figures, called_calls, called_turns}
@@ -69,20 +69,20 @@ goes_empty b all t s fs f n e h =
 module _ (b : Bodies) (f g : Frame) (e : Entry) (split : f.rest.now ≡ e ∷ g.rest.now) (place : g.place ≡ f.place) (below : g.below ≡ f.below) where
   rest_near : (n m : ℕ) → n ≤ m → IsFrameNear n f → IsFrameNear m g
   rest_near n m le h =
-      let parts : left f ≡ part_of e ∷ left g = ap (λ (es : List Entry). map part_of es) split in record {
+      let parts : left f ≡ entry_part e ∷ left g = ap (λ (es : List Entry). map entry_part es) split in record {
         place = subst (IsNear (m * 2 ^ 106)) (sym place) (near_more n m f le h).place;
         entries = All-tail IsEntryNear e g.rest.now (subst (All IsEntryNear) split h.entries);
-        parts = All-tail IsPartKept (part_of e) (left g) (subst (All IsPartKept) parts h.parts);
+        parts = All-tail IsPartKept (entry_part e) (left g) (subst (All IsPartKept) parts h.parts);
       }
 
-  front_figures : frame_figures b f ≡ part_figures b (figures_of f.below b) (apply f.place) (part_of e) ++ frame_figures b g
+  front_figures : frame_figures b f ≡ part_figures b (figures_of f.below b) (apply f.place) (entry_part e) ++ frame_figures b g
   front_figures = rw (split, place, below) refl
 
-  front_calls : frame_calls b f ≡ part_total own_calls b (total_of own_calls f.below b) (part_of e) + frame_calls b g
-  front_calls = rw (split, below) (sum_by-cons (part_total own_calls b (total_of own_calls f.below b)) (part_of e) (left g))
+  front_calls : frame_calls b f ≡ part_total own_calls b (total_of own_calls f.below b) (entry_part e) + frame_calls b g
+  front_calls = rw (split, below) (sum_by-cons (part_total own_calls b (total_of own_calls f.below b)) (entry_part e) (left g))
 
-  front_turns : frame_turns b f ≡ 1 + (part_turns b (turns_of f.below b) (part_of e) + sum_by (part_turns b (turns_of g.below b)) (left g))
-  front_turns = rw (split, below) (ap (λ (n : ℕ). 1 + n) (sum_by-cons (part_turns b (turns_of f.below b)) (part_of e) (left g)))
+  front_turns : frame_turns b f ≡ 1 + (part_turns b (turns_of f.below b) (entry_part e) + sum_by (part_turns b (turns_of g.below b)) (left g))
+  front_turns = rw (split, below) (ap (λ (n : ℕ). 1 + n) (sum_by-cons (part_turns b (turns_of f.below b)) (entry_part e) (left g)))
 
   module _ (all : List Figure) (t : ℕ) (s : List Figure) (fs : List Frame) (n : ℕ) (h : Goes b all t s (fs ++ f ∷ []) n) where
     rest_after : (m : ℕ) → n ≤ m → IsFrameNear m g
@@ -148,17 +148,17 @@ module _ (b : Bodies) (f g : Frame) (e : Entry) (split : f.rest.now ≡ e ∷ g.
   -- a figure in the last frame
   drawn_near : (n : ℕ) (figure : Figure) → e ≡ entry.Drawn figure → IsFrameNear n f → IsFigureNear figure
   drawn_near n figure ee h =
-      let parts : left f ≡ part_of e ∷ left g = ap (λ (es : List Entry). map part_of es) split in
-      let first : IsPartKept (part_of e) = All-head IsPartKept (part_of e) (left g) (subst (All IsPartKept) parts h.parts) in
-      let kept : IsPartKept (Drawn figure) = subst (λ (x : Entry). IsPartKept (part_of x)) ee first in
+      let parts : left f ≡ entry_part e ∷ left g = ap (λ (es : List Entry). map entry_part es) split in
+      let first : IsPartKept (entry_part e) = All-head IsPartKept (entry_part e) (left g) (subst (All IsPartKept) parts h.parts) in
+      let kept : IsPartKept (Drawn figure) = subst (λ (x : Entry). IsPartKept (entry_part x)) ee first in
       kept.0
 
 pub goes_start : (b : Bodies) (depth : ℕ) (f : Frame) (s : List Figure) (fs : List Frame) → s ≡ []
-    → fs ≡ f ∷ [] → depth ≡ suc f.below → left f ≡ b None → ((c : Corner) → apply f.place c ≡ unmoved c)
+    → fs ≡ f ∷ [] → depth ≡ suc f.below → left f ≡ b None → ((c : Corner) → apply f.place c ≡ c)
     → IsNear 0 f.place → All IsEntryNear f.rest.now → All IsPartKept (b None)
-    → Goes b (figures_of depth b unmoved (b None)) (total_of own_calls depth b (b None)) s fs 0
+    → Goes b (figures_of depth b (λ c. c) (b None)) (total_of own_calls depth b (b None)) s fs 0
 goes_start b depth f s fs es efs ed er place near entries parts =
-    let same : apply f.place ≡ unmoved = fun_ext place in
+    let same : apply f.place ≡ (λ c. c) = fun_ext place in
     let zero_near : IsNear (0 * 2 ^ 106) f.place = record { x = omega (arith, near.x); y = omega (arith, near.y) } in record {
       figures_come = rw (es, efs, ed, er, same) refl;
       calls_come = rw (efs, ed, er) (omega arith);

@@ -10,7 +10,7 @@ use Rattle.dpl_calls.specs.declared.table.CallSite.{CallSite}
 use Rattle.dpl_calls.specs.declared.table.Table.{Table}
 use Rattle.dpl_calls.specs.Loops.{calls, is_looped, LeadsBack, Path}
 use Rattle.dpl_calls.specs.Table.{bodies_of}
-use Rattle.dpl_calls.specs.Places.{place_of, graph_of}
+use Rattle.dpl_calls.specs.Places.{place_among, graph_of}
 use Rattle.dpl_calls.specs.Found.{IsSite}
 use Rattle.dpl_calls.proofs.Cases.{of_eq, to_eq}
 use Rattle.dpl_calls.proofs.LoopPaths.{placed_key, looped_back, back_looped}
@@ -21,7 +21,7 @@ module _ (t : Table) (labels heads : List ℕ) (G : AreGroups (graph_of t) label
   abbrev numbers : List ℕ
   numbers = keys t.definitions
 
-  within : (n x : ℕ) → place_of n numbers ≡ Some x → x < length (graph_of t)
+  within : (n x : ℕ) → place_among n numbers ≡ Some x → x < length (graph_of t)
   within n x h =
       let at = placed_key n x numbers h in
       let s : length (graph_of t) ≡ length t.definitions.entries = graph_size t in
@@ -39,8 +39,8 @@ module _ (t : Table) (labels heads : List ℕ) (G : AreGroups (graph_of t) label
       let first : get_or labels y 0 ≤ get_or labels x 0 = G.downward x y h e in
       let rest : get_or labels z 0 ≤ get_or labels y 0 = leads_low y z (inside x y e) p in omega arith
 
-  module _ (s : CallSite) (d x y : ℕ) (ed : s.definition ≡ Some d) (hx : place_of d (keys t.definitions) ≡ Some x)
-      (hy : place_of s.called (keys t.definitions) ≡ Some y) (site : calls (bodies_of t) d s.called ≡ true) where
+  module _ (s : CallSite) (d x y : ℕ) (ed : s.definition ≡ Some d) (hx : place_among d (keys t.definitions) ≡ Some x)
+      (hy : place_among s.called (keys t.definitions) ≡ Some y) (site : calls (bodies_of t) d s.called ≡ true) where
     forth : get_or labels x 0 ≡ get_or labels y 0 → LeadsBack (bodies_of t) s
     forth e = subst (λ (o : Option ℕ). MatchOption o ⊥ (λ d. (s.called ≡ d) ⊎ Path (bodies_of t) s.called d)) (sym ed)
         (elim (G.joined y x (within t labels heads G s.called y hy) (within t labels heads G d x hx) (sym e)) [
@@ -54,7 +54,7 @@ module _ (t : Table) (labels heads : List ℕ) (G : AreGroups (graph_of t) label
         let here : (s.called ≡ d) ⊎ Path (bodies_of t) s.called d =
         subst (λ (o : Option ℕ). MatchOption o ⊥ (λ d. (s.called ≡ d) ⊎ Path (bodies_of t) s.called d)) ed h in
         elim here [
-          | inl q ↦ let same : Some y ≡ Some x = (sym hy ∙ ap (λ (n : ℕ). place_of n (keys t.definitions)) q) ∙ hx in
+          | inl q ↦ let same : Some y ≡ Some x = (sym hy ∙ ap (λ (n : ℕ). place_among n (keys t.definitions)) q) ∙ hx in
               let e : y ≡ x = cc in ap (λ (n : ℕ). get_or labels n 0) (sym e)
           | inr p ↦
               let low : get_or labels x 0 ≤ get_or labels y 0 = leads_low y x (within t labels heads G s.called y hy) (path_leads t s.called d y x hy hx p) in
@@ -77,20 +77,20 @@ outside t s e = not_true (is_looped (length (keys t.definitions)) (bodies_of t) 
     subst (λ (o : Option ℕ). MatchOption o ⊥ (λ d. (s.called ≡ d) ⊎ Path (bodies_of t) s.called d)) e
     (looped_back (bodies_of t) (keys t.definitions) (body_absent t) s h))
 
-pub nowhere : (t : Table) (s : CallSite) (d : ℕ) → s.definition ≡ Some d → IsSite (bodies_of t) s → place_of d (keys t.definitions) ≡ None → ⊥
+pub nowhere : (t : Table) (s : CallSite) (d : ℕ) → s.definition ≡ Some d → IsSite (bodies_of t) s → place_among d (keys t.definitions) ≡ None → ⊥
 nowhere t s d e site h =
     let p : HasPlace t d = caller_place t d s.called (site d e) in
     let bad : None ≡ Some p.place = sym h ∙ p.there in cc
 
 -- a call of what is not there leads nowhere
 pub called_nowhere : (t : Table) (s : CallSite) (d x : ℕ) → s.definition ≡ Some d
-    → place_of d (keys t.definitions) ≡ Some x → place_of s.called (keys t.definitions) ≡ None
+    → place_among d (keys t.definitions) ≡ Some x → place_among s.called (keys t.definitions) ≡ None
     → false ≡ is_looped (length (keys t.definitions)) (bodies_of t) s
 called_nowhere t s d x e hx hn = not_true (is_looped (length (keys t.definitions)) (bodies_of t) s) (λ h.
     let here : (s.called ≡ d) ⊎ Path (bodies_of t) s.called d =
     subst (λ (o : Option ℕ). MatchOption o ⊥ (λ d. (s.called ≡ d) ⊎ Path (bodies_of t) s.called d)) e
     (looped_back (bodies_of t) (keys t.definitions) (body_absent t) s h) in
     elim here [
-      | inl q ↦ let bad : None ≡ Some x = (sym hn ∙ ap (λ (n : ℕ). place_of n (keys t.definitions)) q) ∙ hx in cc
+      | inl q ↦ let bad : None ≡ Some x = (sym hn ∙ ap (λ (n : ℕ). place_among n (keys t.definitions)) q) ∙ hx in cc
       | inr p ↦ let at : HasPlace t s.called = path_place t s.called d p in let bad : None ≡ Some at.place = sym hn ∙ at.there in cc
     ])

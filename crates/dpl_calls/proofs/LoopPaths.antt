@@ -8,7 +8,7 @@ use Rattle.dpl_calls.specs.Parts.{Part, Bodies}
 use Rattle.dpl_calls.specs.Parts.Part.{Drawn, Called}
 use Rattle.dpl_calls.specs.Loops.{part_leads, leads_to, is_looped, names, calls, Path, LeadsBack}
 use Rattle.dpl_calls.specs.Loops.Path.{once, more}
-use Rattle.dpl_calls.specs.Places.{place_of, one_further}
+use Rattle.dpl_calls.specs.Places.{place_among, one_further}
 use Rattle.dpl_calls.proofs.Cases.{of_eq, to_eq}
 use Rattle.std.proofs.lemmas.Bool.{or_left, or_right, or_cases, cases_Bool}
 use Rattle.std.proofs.lemmas.List.{length-map}
@@ -139,16 +139,16 @@ grows f h m (k ∷ ks) = by (f k) (h k) (m k) (grows f h m ks)
     by false true i g = record { le = omega (arith, g.le); same = inr (omega (arith, g.le)) }
     by false false i g = record { le = g.le; same = elim g.same [ inl e ↦ inl (ap (λ (bs : List Bool). false ∷ bs) e) | inr l ↦ inr l ] }
 
-pub placed_key : (n i : ℕ) (ks : List ℕ) → place_of n ks ≡ Some i → (i < length ks) × (get_or ks i 0 ≡ n)
+pub placed_key : (n i : ℕ) (ks : List ℕ) → place_among n ks ≡ Some i → (i < length ks) × (get_or ks i 0 ≡ n)
 placed_key n i [] h = cc
 placed_key n i (k ∷ ks) h = elim (cases_Bool (n == k)) [
-  | inl e ↦ let z : Some 0 ≡ Some i = subst (λ (b : Bool). cond b (Some 0) (one_further (place_of n ks)) ≡ Some i) e h in let q : 0 ≡ i = cc in
+  | inl e ↦ let z : Some 0 ≡ Some i = subst (λ (b : Bool). cond b (Some 0) (one_further (place_among n ks)) ≡ Some i) e h in let q : 0 ≡ i = cc in
       subst (λ (j : ℕ). (j < length (k ∷ ks)) × (get_or (k ∷ ks) j 0 ≡ n)) q (omega arith, sym (of_eq n k e))
-  | inr e ↦ later i (λ j q. placed_key n j ks q) (place_of n ks) refl (subst (λ (b : Bool). cond b (Some 0) (one_further (place_of n ks)) ≡ Some i) e h)
+  | inr e ↦ later i (λ j q. placed_key n j ks q) (place_among n ks) refl (subst (λ (b : Bool). cond b (Some 0) (one_further (place_among n ks)) ≡ Some i) e h)
 ]
   where
-    later : (i : ℕ) → ((j : ℕ) → place_of n ks ≡ Some j → (j < length ks) × (get_or ks j 0 ≡ n)) → (o : Option ℕ) →
-        place_of n ks ≡ o → one_further o ≡ Some i → (i < length (k ∷ ks)) × (get_or (k ∷ ks) i 0 ≡ n)
+    later : (i : ℕ) → ((j : ℕ) → place_among n ks ≡ Some j → (j < length ks) × (get_or ks j 0 ≡ n)) → (o : Option ℕ) →
+        place_among n ks ≡ o → one_further o ≡ Some i → (i < length (k ∷ ks)) × (get_or (k ∷ ks) i 0 ≡ n)
     later i ih None e f = cc
     later i ih (Some j) e f =
         let q : suc j ≡ i = (let w : j + 1 ≡ i = cc in omega arith) in
@@ -160,7 +160,7 @@ map_at f h [] i e l = absurd (omega arith)
 map_at f h (k ∷ ks) zero e l = cc
 map_at f h (k ∷ ks) (suc i) e l = let tail : map f ks ≡ map h ks = cc in map_at f h ks i tail (omega arith)
 
-module _ (b : Bodies) (to : ℕ) (ks : List ℕ) (only : (n : ℕ) → place_of n ks ≡ None → b (Some n) ≡ []) where
+module _ (b : Bodies) (to : ℕ) (ks : List ℕ) (only : (n : ℕ) → place_among n ks ≡ None → b (Some n) ≡ []) where
   abbrev led : ℕ → ℕ → Bool
   led k n = leads_to k b to (b (Some n))
 
@@ -170,9 +170,9 @@ module _ (b : Bodies) (to : ℕ) (ks : List ℕ) (only : (n : ℕ) → place_of 
 
   -- what is the same for all definitions is the same for all numbers
   same_led : (k : ℕ) → map (led k) ks ≡ map (led (suc k)) ks → (n : ℕ) → led k n ≡ led (suc k) n
-  same_led k e n = by (place_of n ks) refl
+  same_led k e n = by (place_among n ks) refl
     where
-      by : (o : Option ℕ) → place_of n ks ≡ o → led k n ≡ led (suc k) n
+      by : (o : Option ℕ) → place_among n ks ≡ o → led k n ≡ led (suc k) n
       by None h = rw (only n h) (leads_nil k ∙ sym (leads_nil (suc k)))
       by (Some i) h =
           let at = placed_key n i ks h in
@@ -235,7 +235,7 @@ module _ (b : Bodies) (to : ℕ) (ks : List ℕ) (only : (n : ℕ) → place_of 
       ]
 
 -- a call is looped exactly where it leads back
-module _ (b : Bodies) (ks : List ℕ) (only : (n : ℕ) → place_of n ks ≡ None → b (Some n) ≡ []) where
+module _ (b : Bodies) (ks : List ℕ) (only : (n : ℕ) → place_among n ks ≡ None → b (Some n) ≡ []) where
   pub looped_back : (s : CallSite) → is_looped (length ks) b s ≡ true → LeadsBack b s
   unfolding is_looped
   looped_back s h = by s.definition h

@@ -16,7 +16,7 @@ use Rattle.dpl_calls.specs.declared.figure.Figure.{Figure}
 use Rattle.dpl_calls.specs.declared.figure.Figure.TheVariants.{Rectangle, Polygon}
 use Rattle.dpl_calls.specs.Parts.{corner, Part, Bodies, turned, transformed, transformed_by}
 use Rattle.dpl_calls.specs.Parts.Part.{Drawn, Called}
-use Rattle.dpl_calls.specs.Unfolding.{placed, unmoved, part_figures, figures_of}
+use Rattle.dpl_calls.specs.Unfolding.{placed, part_figures, figures_of}
 use Rattle.dpl_calls.specs.Kept.{AreLevel, IsSound, IsRigid, IsPartKept, AreKept}
 
 neg_back : (a b : ℤ) → neg_ℤ a ≡ neg_ℤ b → a ≡ b
@@ -25,7 +25,7 @@ neg_back a b e = omega (arith, ints)
 add_back : (a b k : ℤ) → a +ℤ k ≡ b +ℤ k → a ≡ b
 add_back a b k e = omega (arith, ints)
 
-pub unmoved_rigid : IsRigid unmoved
+pub unmoved_rigid : IsRigid (λ c. c)
 unmoved_rigid = record { level = λ a b h. h; apart = λ a b x y. (x, y) }
 
 pub composed_rigid : (f h : Corner → Corner) → IsRigid f → IsRigid h → IsRigid (λ c. f (h c))

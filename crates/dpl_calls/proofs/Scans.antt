@@ -18,7 +18,7 @@ use Rattle.dpl_calls.specs.declared.table.Table.{Table}
 use Rattle.dpl_calls.specs.Parts.{Part, is_same, parts_from}
 use Rattle.dpl_calls.specs.Loops.{names, calls, sites_from, first_site, is_looped}
 use Rattle.dpl_calls.specs.Table.{bodies_of}
-use Rattle.dpl_calls.specs.Places.{place_of, one_further, body_at, graph_of}
+use Rattle.dpl_calls.specs.Places.{place_among, one_further, body_at, graph_of}
 use Rattle.dpl_calls.specs.Counted.{HasNoLoop}
 use Rattle.dpl_calls.specs.Scanned.{IsScanned}
 use Rattle.dpl_calls.proofs.Cases.{of_eq, to_eq}
@@ -55,7 +55,7 @@ none_first test what d e (s ∷ ss) h f = by (test s) refl h (λ q g. none_first
     ]
 
 -- among different numbers each is found at its place
-place_of_key : (ks : List ℕ) (x : ℕ) → IsDistinct nat_eq ks → x < length ks → place_of (get_or ks x 0) ks ≡ Some x
+place_of_key : (ks : List ℕ) (x : ℕ) → IsDistinct nat_eq ks → x < length ks → place_among (get_or ks x 0) ks ≡ Some x
 unfolding IsDistinct
 place_of_key [] x d h = absurd (omega arith)
 place_of_key (k ∷ ks) zero d h = rw (to_eq k k refl) refl
@@ -64,7 +64,7 @@ place_of_key (k ∷ ks) (suc x) d h =
     let apart : (k == n) ≡ false = differs (λ y. nat_eq k y ≡ false) ks x d.0 (omega arith) in
     let other : (n == k) ≡ false = flip n k apart in
     let one : suc x ≡ x + 1 = omega arith in
-    (ap (λ (b : Bool). cond b (Some 0) (one_further (place_of n ks))) other ∙
+    (ap (λ (b : Bool). cond b (Some 0) (one_further (place_among n ks))) other ∙
     ap one_further (place_of_key ks x d.1 (omega arith))) ∙ ap (λ (m : ℕ). Some m) (sym one)
   where
     differs : (P : ℕ → Type 0) (ks : List ℕ) (x : ℕ) → AllByRecursion P ks → x < length ks → P (get_or ks x 0)
@@ -104,13 +104,13 @@ module _ (chosen : List ℕ) (all : List (Result Command What)) (ending : Ending
           let size : length (graph_of t) ≡ length t.definitions.entries = graph_size t in
           let count : length (keys t.definitions) ≡ length t.definitions.entries = length-map t.definitions.entries (λ e. e.0) in
           let n : ℕ = get_or (keys t.definitions) x 0 in
-          let hx : place_of n (keys t.definitions) ≡ Some x = place_of_key (keys t.definitions) x distinct (omega (arith, size, count, inside)) in
+          let hx : place_among n (keys t.definitions) ≡ Some x = place_of_key (keys t.definitions) x distinct (omega (arith, size, count, inside)) in
           let d : Named t y (body_at t x) = edge_names t x y e in
           let call : calls (bodies_of t) n d.m ≡ true = subst (λ (ps : List Part). list_any (names d.m) ps ≡ true) (sym (body_placed t n x hx)) d.named in
           let f : FromSites n d.m sites (is_looped (length (keys t.definitions)) (bodies_of t)) =
           none_first (is_looped (length (keys t.definitions)) (bodies_of t)) Loop n d.m sites none
           (sym (calls_sites n d.m) ∙ call) in
-          let hy : place_of f.site.called (keys t.definitions) ≡ Some y = ap (λ (k : ℕ). place_of k (keys t.definitions)) f.named ∙ d.place in
+          let hy : place_among f.site.called (keys t.definitions) ≡ Some y = ap (λ (k : ℕ). place_among k (keys t.definitions)) f.named ∙ d.place in
           let site : calls (bodies_of t) n f.site.called ≡ true = subst (λ (k : ℕ). calls (bodies_of t) n k ≡ true) (sym f.named) call in
           let group : (get_or labels x 0 == get_or labels y 0) ≡ is_looped (length (keys t.definitions)) (bodies_of t)
           f.site = same_group t labels heads G (is_graph t) f.site n x y f.stands hx hy site in

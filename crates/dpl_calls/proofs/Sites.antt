@@ -11,7 +11,8 @@ use Rattle.dpl_rules.specs.declared.what.What.{What}
 use Rattle.dpl_rules.specs.Rules.{after, is_chosen}
 use Rattle.dpl_rules.specs.Figures.{box_extent, legs}
 use Rattle.dpl_calls.specs.declared.table.CallSite.{CallSite}
-use Rattle.dpl_calls.specs.Parts.{Part, is_same, where_true, parts_of, parts_from, rectangle, scaled_corner}
+use Rattle.dpl_calls.specs.Parts.{Part, is_same, parts_of, parts_from, rectangle, scaled_corner}
+use Rattle.dpl_calls.specs.Put.{where_true}
 use Rattle.dpl_calls.specs.Parts.Part.{Drawn}
 use Rattle.dpl_calls.specs.declared.figure.Figure.TheVariants as figure
 use Rattle.dpl_calls.specs.Loops.{names, sites_of, sites_from}

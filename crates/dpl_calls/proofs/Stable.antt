@@ -17,7 +17,7 @@ use Rattle.dpl_calls.specs.Parts.Part.{Drawn, Called}
 use Rattle.dpl_calls.specs.Loops.{names}
 use Rattle.dpl_calls.specs.Totals.{part_total, total_of, shown}
 use Rattle.dpl_calls.specs.Table.{bodies_of}
-use Rattle.dpl_calls.specs.Places.{place_of, body_at, graph_of}
+use Rattle.dpl_calls.specs.Places.{place_among, body_at, graph_of}
 use Rattle.dpl_calls.specs.Counted.{total_at, kept_of, kept_total, HasNoLoop, AreRight}
 use Rattle.dpl_calls.proofs.Cases.{to_eq}
 use Rattle.dpl_calls.proofs.LoopPaths.{placed_key}
@@ -65,7 +65,7 @@ module _ (own : Part → ℕ) (t : Table) (labels heads : List ℕ) (G : AreGrou
   count = length t.definitions.entries
 
   -- a definition that is called has a smaller number
-  pub callee_low : (x m y : ℕ) → list_any (names m) (body_at t x) ≡ true → place_of m (keys t.definitions) ≡ Some y → get_or labels y 0 < get_or labels x 0
+  pub callee_low : (x m y : ℕ) → list_any (names m) (body_at t x) ≡ true → place_among m (keys t.definitions) ≡ Some y → get_or labels y 0 < get_or labels x 0
   callee_low x m y c h =
       let a : At t y _ = edge_in t m y h (body_at t x) c in
       none x y (record {
@@ -78,9 +78,9 @@ module _ (own : Part → ℕ) (t : Table) (labels heads : List ℕ) (G : AreGrou
   stable : (j x : ℕ) → get_or labels x 0 < j → total_of own j b (body_at t x) ≡ total_of own (suc j) b (body_at t x)
   stable zero x h = absurd (omega arith)
   stable (suc j) x h = sums_same own b (total_of own j b) (total_of own (suc j) b) (body_at t x)
-      (λ m c. by m c (place_of m (keys t.definitions)) refl (λ y l. stable j y l))
+      (λ m c. by m c (place_among m (keys t.definitions)) refl (λ y l. stable j y l))
     where
-      by : (m : ℕ) → list_any (names m) (body_at t x) ≡ true → (o : Option ℕ) → place_of m (keys t.definitions) ≡ o →
+      by : (m : ℕ) → list_any (names m) (body_at t x) ≡ true → (o : Option ℕ) → place_among m (keys t.definitions) ≡ o →
           ((y : ℕ) → get_or labels y 0 < j → total_of own j b (body_at t y) ≡ total_of own (suc j) b (body_at t y)) →
           total_of own j b (b (Some m)) ≡ total_of own (suc j) b (b (Some m))
       by m c None e ih = rw (body_absent t m e) (total_nil own b j ∙ sym (total_nil own b (suc j)))
@@ -125,11 +125,11 @@ module _ (own : Part → ℕ) (t : Table) (labels heads : List ℕ) (G : AreGrou
       shown (sum_by (kept_total own (kept_of (keys t.definitions) totals)) (body_at t x)) ≡ shown
       (total_of own count b (body_at t x))
   next_right k x totals right hx e =
-      kept_same own b (kept_of (keys t.definitions) totals) (total_of own count b) (body_at t x) (λ m c. by m c (place_of m (keys t.definitions)) refl)
+      kept_same own b (kept_of (keys t.definitions) totals) (total_of own count b) (body_at t x) (λ m c. by m c (place_among m (keys t.definitions)) refl)
       ∙ ap (λ (n : ℕ). shown n) (sym (stable count x (label_few x hx)))
     where
-      by : (m : ℕ) → list_any (names m) (body_at t x) ≡ true → (o : Option ℕ) → place_of m (keys t.definitions) ≡ o →
-          shown (total_at (place_of m (keys t.definitions)) totals) ≡ shown (total_of own count b (b (Some m)))
+      by : (m : ℕ) → list_any (names m) (body_at t x) ≡ true → (o : Option ℕ) → place_among m (keys t.definitions) ≡ o →
+          shown (total_at (place_among m (keys t.definitions)) totals) ≡ shown (total_of own count b (b (Some m)))
       by m c None q = rw (q, body_absent t m q, total_nil own b count) refl
       by m c (Some y) q =
           let low : get_or labels y 0 < get_or labels x 0 = callee_low x m y c q in
@@ -147,10 +147,10 @@ module _ (own : Part → ℕ) (t : Table) (labels heads : List ℕ) (G : AreGrou
       shown (sum_by (kept_total own (kept_of (keys t.definitions) totals)) parts) ≡ shown
       (total_of own (suc count) b parts)
   top_right totals parts right = kept_same own b (kept_of (keys t.definitions) totals) (total_of own count b) parts
-      (λ m c. by m (place_of m (keys t.definitions)) refl)
+      (λ m c. by m (place_among m (keys t.definitions)) refl)
     where
-      by : (m : ℕ) → (o : Option ℕ) → place_of m (keys t.definitions) ≡ o →
-          shown (total_at (place_of m (keys t.definitions)) totals) ≡ shown (total_of own count b (b (Some m)))
+      by : (m : ℕ) → (o : Option ℕ) → place_among m (keys t.definitions) ≡ o →
+          shown (total_at (place_among m (keys t.definitions)) totals) ≡ shown (total_of own count b (b (Some m)))
       by m None q = rw (q, body_absent t m q, total_nil own b count) refl
       by m (Some y) q =
           let at = placed_key m y (keys t.definitions) q in

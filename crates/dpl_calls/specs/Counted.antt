@@ -9,7 +9,7 @@ use Rattle.dpl_calls.specs.Parts.{Part}
 use Rattle.dpl_calls.specs.Parts.Part.{Drawn, Called}
 use Rattle.dpl_calls.specs.Totals.{own_calls, own_weight, total_of, shown}
 use Rattle.dpl_calls.specs.Table.{bodies_of}
-use Rattle.dpl_calls.specs.Places.{place_of, body_at}
+use Rattle.dpl_calls.specs.Places.{place_among, body_at}
 
 abbrev pub own_of : Count → Part → ℕ
 own_of Calls p = own_calls p
@@ -21,7 +21,7 @@ total_at (Some i) totals = get_or totals i 0
 
 -- the total that is kept for a number
 abbrev pub kept_of : List ℕ → List ℕ → ℕ → ℕ
-kept_of numbers totals n = total_at (place_of n numbers) totals
+kept_of numbers totals n = total_at (place_among n numbers) totals
 
 -- what a part counts alone, and what is kept for the definition that it calls
 abbrev pub kept_total : (Part → ℕ) → (ℕ → ℕ) → Part → ℕ

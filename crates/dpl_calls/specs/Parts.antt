@@ -23,22 +23,18 @@ pub data Part : Type 0 where
   Drawn : Figure → Part
   Called : ℕ → (Corner → Corner) → Part
 
--- a rectangle in its scale
-abbrev pub scaled_extent : Scale → Extent → Extent
-scaled_extent scale e = record {
-  x1 = scaled scale e.x1;
-  y1 = scaled scale e.y1;
-  x2 = scaled scale e.x2;
-  y2 = scaled scale e.y2;
-}
-
 -- a point in its scale
 abbrev pub scaled_corner : Scale → Spot → Corner
 scaled_corner scale s = corner (scaled scale (double s.x)) (scaled scale (double s.y))
 
--- a rectangle of a box or a wire
+-- a rectangle of a box or a wire, in its scale
 abbrev pub rectangle : Scale → Extent → Part
-rectangle scale e = Drawn (figure.Rectangle (scaled_extent scale e))
+rectangle scale e = Drawn (figure.Rectangle (record {
+  x1 = scaled scale e.x1;
+  y1 = scaled scale e.y1;
+  x2 = scaled scale e.x2;
+  y2 = scaled scale e.y2;
+}))
 
 -- the x axis turns to a direction on an axis
 abbrev pub turned : Spot → Corner → Corner
@@ -60,17 +56,14 @@ abbrev pub transformed_by : Scale → List Transformation → Corner → Corner
 transformed_by scale [] c = c
 transformed_by scale (t ∷ ts) c = transformed_by scale ts (transformed scale t c)
 
-abbrev pub where_true : Bool → List Part → List Part
-where_true b parts = if b then parts else []
-
 -- what one command puts in: no figure of another layer, and no box or wire that covers nothing
 abbrev pub parts_of : Scope → Command → List Part
 parts_of s (Polygon path) =
-    where_true (is_chosen s.layer) (Drawn (figure.Polygon (map (scaled_corner s.scale) path)) ∷ [])
-parts_of s (Box b) = where_true (is_chosen s.layer
-    && not (b.length == 0 || b.width == 0)) (rectangle s.scale (box_extent b) ∷ [])
+    if is_chosen s.layer then Drawn (figure.Polygon (map (scaled_corner s.scale) path)) ∷ [] else []
+parts_of s (Box b) = if is_chosen s.layer && not (b.length == 0 || b.width == 0)
+    then rectangle s.scale (box_extent b) ∷ [] else []
 parts_of s (Wire width path) =
-    where_true (is_chosen s.layer && not (width == 0)) (map (rectangle s.scale) (legs width path))
+    if is_chosen s.layer && not (width == 0) then map (rectangle s.scale) (legs width path) else []
 parts_of s (Call n transformations) = Called n (transformed_by s.scale transformations) ∷ []
 parts_of s c = []
 
@@ -88,5 +81,5 @@ Bodies = Option ℕ → List Part
 abbrev pub parts_from : List ℕ → Scope → List (Result Command What) → Bodies
 parts_from chosen s [] place = []
 parts_from chosen s (Err what ∷ rest) place = parts_from chosen s rest place
-parts_from chosen s (Ok c ∷ rest) place = where_true (is_same place s.definition) (parts_of s c)
+parts_from chosen s (Ok c ∷ rest) place = (if is_same place s.definition then parts_of s c else [])
     ++ parts_from chosen (after chosen s c) rest place

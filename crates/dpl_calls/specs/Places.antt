@@ -6,16 +6,16 @@ use Rattle.dpl_groups.specs.Graph.{Graph}
 use Rattle.dpl_calls.specs.declared.table.Table.{Table}
 use Rattle.dpl_calls.specs.Parts.{Part}
 use Rattle.dpl_calls.specs.Parts.Part.{Drawn, Called}
-use Rattle.dpl_calls.specs.Table.{part_of}
+use Rattle.dpl_calls.specs.Table.{entry_part}
 
 abbrev pub one_further : Option ℕ → Option ℕ
 one_further None = None
 one_further (Some i) = Some (i + 1)
 
 -- the place of a number among others
-abbrev pub place_of : ℕ → List ℕ → Option ℕ
-place_of n [] = None
-place_of n (k ∷ ks) = if n == k then Some 0 else one_further (place_of n ks)
+abbrev pub place_among : ℕ → List ℕ → Option ℕ
+place_among n [] = None
+place_among n (k ∷ ks) = if n == k then Some 0 else one_further (place_among n ks)
 
 abbrev pub with_place : Option ℕ → List ℕ → List ℕ
 with_place None places = places
@@ -26,13 +26,13 @@ abbrev pub called_places : List ℕ → List Part → List ℕ
 called_places numbers [] = []
 called_places numbers (Drawn figure ∷ parts) = called_places numbers parts
 called_places numbers (Called n moves ∷ parts) =
-    with_place (place_of n numbers) (called_places numbers parts)
+    with_place (place_among n numbers) (called_places numbers parts)
 
 -- the parts of the definition at a place
 abbrev pub body_at : Table → ℕ → List Part
-body_at t i = map part_of (get_or (values t.definitions) i [])
+body_at t i = map entry_part (get_or (values t.definitions) i [])
 
 -- for each definition the definitions that it calls, by their places
 abbrev pub graph_of : Table → Graph
 graph_of t = map (λ entries.
-    called_places (keys t.definitions) (map part_of entries)) (values t.definitions)
+    called_places (keys t.definitions) (map entry_part entries)) (values t.definitions)

@@ -8,13 +8,13 @@ use Rattle.dpl_calls.specs.Parts.Part.{Drawn, Called}
 use Rattle.dpl_calls.specs.Unfolding.{part_figures, figures_of}
 use Rattle.dpl_calls.specs.Totals.{part_total, total_of, own_calls}
 use Rattle.dpl_calls.specs.Placement.{apply, IsNear}
-use Rattle.dpl_calls.specs.Table.{part_of}
+use Rattle.dpl_calls.specs.Table.{entry_part}
 use Rattle.dpl_calls.specs.Entries.{IsEntryNear}
 use Rattle.dpl_calls.specs.Kept.{IsPartKept}
 
 -- the parts that a frame has left
 abbrev pub left : Frame → List Part
-left f = map part_of f.rest.now
+left f = map entry_part f.rest.now
 
 -- the figures that they give
 abbrev pub frame_figures : Bodies → Frame → List Figure

@@ -9,9 +9,9 @@ use Rattle.dpl_calls.specs.Parts.Part.{Drawn, Called}
 use Rattle.dpl_calls.specs.Placement.{apply}
 
 -- the part that an entry stands for
-abbrev pub part_of : Entry → Part
-part_of (entry.Drawn figure) = Drawn figure
-part_of (entry.Called at n p) = Called n (apply p)
+abbrev pub entry_part : Entry → Part
+entry_part (entry.Drawn figure) = Drawn figure
+entry_part (entry.Called at n p) = Called n (apply p)
 
 abbrev pub or_nothing : Option (List Entry) → List Entry
 or_nothing None = []
@@ -24,4 +24,4 @@ entries_of t (Some n) = or_nothing (get nat_eq t.definitions n)
 
 -- the parts that a table holds
 abbrev pub bodies_of : Table → Bodies
-bodies_of t place = map part_of (entries_of t place)
+bodies_of t place = map entry_part (entries_of t place)

@@ -24,9 +24,6 @@ placed place (Rectangle e) =
     Rectangle (extent_between (place (corner e.x1 e.y1)) (place (corner e.x2 e.y2)))
 placed place (Polygon corners) = Polygon (map place corners)
 
-abbrev pub unmoved : Corner → Corner
-unmoved c = c
-
 -- a call gives the figures of the definition that it names, its own moves before those around it
 abbrev pub part_figures : Bodies → ((Corner → Corner) → List Part → List Figure) →
     (Corner → Corner) → Part → List Figure

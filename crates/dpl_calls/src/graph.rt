@@ -4,7 +4,7 @@ ghost use Rattle.indexmap.specs.IndexMap.{keys};
 ghost use Rattle.dpl_groups.specs.Groups.{AreGroups};
 ghost use Rattle.dpl_calls.specs.Places as lists;
 ghost use Rattle.dpl_calls.specs.Places.{graph_of};
-ghost use Rattle.dpl_calls.specs.Table.{part_of};
+ghost use Rattle.dpl_calls.specs.Table.{entry_part};
 
 use crate::entry::Entry;
 use crate::table::Table;
@@ -15,7 +15,7 @@ use std::alloc::{AllocError, Global};
 /// Adds the place of the definition that an entry calls.
 fn put_place(places: &mut Vec<usize>, table: &Table, entry: &Entry) -> Result<(), AllocError>
     ensures { OnOk result (places.new.items ≡ places.old.items
-        ++ lists.called_places (keys table.now.definitions) (part_of entry.now ∷ [])) }
+        ++ lists.called_places (keys table.now.definitions) (entry_part entry.now ∷ [])) }
 {
     let Entry::Called { number, .. } = entry else {
         return Ok(());
@@ -36,7 +36,7 @@ fn called_places(
     entries: &[Entry],
 ) -> Result<Items<usize>, AllocError>
     ensures { IfOk result (λ r.
-        r ≡ lists.called_places (keys table.now.definitions) (map part_of entries.now)) }
+        r ≡ lists.called_places (keys table.now.definitions) (map entry_part entries.now)) }
 {
     let mut places = Vec::new(alloc);
     for entry in entries {

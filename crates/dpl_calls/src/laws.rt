@@ -9,7 +9,7 @@ ghost use Rattle.dpl_calls.specs.Parts.{corner, turned, transformed, transformed
 ghost use Rattle.dpl_calls.specs.Places.{graph_of};
 ghost use Rattle.dpl_calls.specs.Rotations.{quarter_left, quarter_right};
 ghost use Rattle.dpl_calls.specs.Table.{bodies_of};
-ghost use Rattle.dpl_calls.specs.Unfolding.{placed, unmoved, figures_of};
+ghost use Rattle.dpl_calls.specs.Unfolding.{placed, figures_of};
 
 use crate::table::Table;
 use dpl_groups::Groups;
@@ -60,7 +60,7 @@ pub fn depth_may_grow(table: &Table, groups: &Groups)
     requires groups { AreGroups (graph_of table.now) groups.now.labels groups.now.heads }
     requires loops { HasNoLoop (graph_of table.now) groups.now.labels }
     ensures { (deeper : ℕ) → figures_of (length table.now.definitions.entries + 1 + deeper)
-        (bodies_of table.now) unmoved (bodies_of table.now None)
-        ≡ figures_of (length table.now.definitions.entries + 1) (bodies_of table.now) unmoved
+        (bodies_of table.now) (λ c. c) (bodies_of table.now None)
+        ≡ figures_of (length table.now.definitions.entries + 1) (bodies_of table.now) (λ c. c)
         (bodies_of table.now None) }
 {}

@@ -4,9 +4,9 @@ ghost use Rattle.dpl_rules.specs.Figures.{IsScale, IsExtentNear, legs};
 ghost use Rattle.dpl_rules.specs.Bounds.{is_command_in_bounds};
 ghost use Rattle.dpl_calls.specs.Parts as parts;
 ghost use Rattle.dpl_calls.specs.Parts.Part.{Drawn};
-ghost use Rattle.dpl_calls.specs.Table.{part_of};
+ghost use Rattle.dpl_calls.specs.Table.{entry_part};
 ghost use Rattle.dpl_calls.specs.Found.{calls_in};
-ghost use Rattle.dpl_calls.specs.Put.{site_in, IsFew};
+ghost use Rattle.dpl_calls.specs.Put.{scaled_extent, site_in, IsFew};
 
 use crate::apart::Apart;
 use crate::body::Body;
@@ -23,7 +23,7 @@ use std::alloc::{AllocError, Global};
 fn scaled_extent(scale: Scale, e: Extent) -> Extent
     requires scale { IsScale scale }
     requires near { IsExtentNear e }
-    ensures { result ≡ parts.scaled_extent scale e }
+    ensures { result ≡ scaled_extent scale e }
 {
     Extent {
         x1: scaled(scale, e.x1),
@@ -56,7 +56,7 @@ fn scaled_path(alloc: Global, scale: Scale, path: &[Spot]) -> Result<Items<Corne
 
 /// Adds a figure.
 fn put_figure(alloc: Global, body: &mut Body, figure: Figure) -> Result<(), AllocError>
-    ensures parts { OnOk result (map part_of body.new ≡ map part_of body.old ++ Drawn figure ∷ []) }
+    ensures parts { OnOk result (map entry_part body.new ≡ map entry_part body.old ++ Drawn figure ∷ []) }
     ensures calls { OnOk result ((place : Option ℕ) →
         calls_in place body.new ≡ calls_in place body.old) }
 {
@@ -68,7 +68,7 @@ fn put_figure(alloc: Global, body: &mut Body, figure: Figure) -> Result<(), Allo
 fn put_rectangle(alloc: Global, body: &mut Body, scale: Scale, e: Extent) -> Result<(), AllocError>
     requires scale { IsScale scale }
     requires near { IsExtentNear e }
-    ensures parts { OnOk result (map part_of body.new ≡ map part_of body.old
+    ensures parts { OnOk result (map entry_part body.new ≡ map entry_part body.old
         ++ parts.rectangle scale e ∷ []) }
     ensures calls { OnOk result ((place : Option ℕ) →
         calls_in place body.new ≡ calls_in place body.old) }
@@ -84,7 +84,7 @@ fn put_legs(
     path: &[Spot],
 ) -> Result<(), AllocError>
     requires { IsScale scale }
-    ensures parts { OnOk result (map part_of body.new ≡ map part_of body.old
+    ensures parts { OnOk result (map entry_part body.new ≡ map entry_part body.old
         ++ map (parts.rectangle scale) (legs width path.now)) }
     ensures calls { OnOk result ((place : Option ℕ) →
         calls_in place body.new ≡ calls_in place body.old) }
@@ -114,7 +114,7 @@ pub fn put_entries(
     requires scale { IsScale scope.now.scale }
     requires bounds { is_command_in_bounds command.now ≡ true }
     requires few { IsFew command.now }
-    ensures parts { OnOk result (map part_of body.new ≡ map part_of body.old
+    ensures parts { OnOk result (map entry_part body.new ≡ map entry_part body.old
         ++ parts.parts_of scope.now command.now) }
     ensures calls { OnOk result ((place : Option ℕ) →
         calls_in place body.new ≡ calls_in place body.old ++ site_in place at command.now) }

@@ -3,7 +3,7 @@ ghost use Rattle.std.specs.Prelude.{◌≡◌, ◌<◌, [], All, IfSome, Some, l
 ghost use Rattle.std.specs.List.{IsDistinct};
 ghost use Rattle.std.proofs.Math.ListN.{get_or};
 ghost use Rattle.indexmap.specs.IndexMap.{keys, values};
-ghost use Rattle.dpl_calls.specs.Places.{place_of};
+ghost use Rattle.dpl_calls.specs.Places.{place_among};
 ghost use Rattle.dpl_calls.specs.Entries.{IsEntryNear};
 ghost use Rattle.dpl_calls.specs.Table.{entries_of};
 
@@ -42,7 +42,7 @@ impl Table {
     /// The place of a definition among the others, in the order of the file.
     #[tactic(auto, using(crate::proofs::Edges::position_is))]
     pub fn place(&self, number: u64) -> Option<usize>
-        ensures value { result ≡ place_of number (keys self.now.definitions) }
+        ensures value { result ≡ place_among number (keys self.now.definitions) }
         ensures within { IfSome result (λ i. i < length self.now.definitions.entries) }
     {
         self.definitions.get_index_of(&number)

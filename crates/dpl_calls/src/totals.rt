@@ -4,7 +4,7 @@ ghost use Rattle.indexmap.specs.IndexMap.{keys};
 ghost use Rattle.dpl_groups.specs.Groups.{AreGroups};
 ghost use Rattle.dpl_calls.specs.Parts.Part.{Drawn};
 ghost use Rattle.dpl_calls.specs.Totals.{total_of, own_weight, shown};
-ghost use Rattle.dpl_calls.specs.Table.{part_of, bodies_of};
+ghost use Rattle.dpl_calls.specs.Table.{entry_part, bodies_of};
 ghost use Rattle.dpl_calls.specs.Places.{graph_of};
 ghost use Rattle.dpl_calls.specs.Counted.{own_of, kept_of, kept_total, HasNoLoop, AreTotals};
 
@@ -36,7 +36,7 @@ fn weight(figure: &Figure) -> u64
 }
 
 fn own(count: Count, entry: &Entry) -> u64
-    ensures value { result ≡ own_of count (part_of entry.now) }
+    ensures value { result ≡ own_of count (entry_part entry.now) }
     ensures small { result < 2 ^ 63 }
 {
     match (count, entry) {
@@ -64,7 +64,7 @@ fn entry_total(count: Count, table: &Table, totals: &[u64], entry: &Entry) -> u6
     requires { length totals.now ≡ length table.now.definitions.entries }
     ensures value { shown result
         ≡ shown (kept_total (own_of count) (kept_of (keys table.now.definitions) totals.now)
-        (part_of entry.now)) }
+        (entry_part entry.now)) }
     ensures small { result < 2 ^ 63 + 2 ^ 40 }
 {
     let alone = own(count, entry);
@@ -79,7 +79,7 @@ fn entries_total(count: Count, table: &Table, totals: &[u64], entries: &[Entry])
     requires { length totals.now ≡ length table.now.definitions.entries }
     ensures value { result ≡ shown
         (sum_by (kept_total (own_of count) (kept_of (keys table.now.definitions) totals.now))
-        (map part_of entries.now)) }
+        (map entry_part entries.now)) }
     ensures small { result ≤ 10 ^ 12 }
 {
     let mut sum = 0u64;

@@ -2,7 +2,7 @@
 ghost use Rattle.std.specs.Prelude.{◌≡◌, ◌≤◌, ◌<◌, ◌^◌, List, map, All, IfOk, None};
 ghost use Rattle.dpl_limits.specs.declared.TheConstants.{MOST_CALLS};
 ghost use Rattle.dpl_calls.specs.Unfolding as unfolds;
-ghost use Rattle.dpl_calls.specs.Unfolding.{figures_of, unmoved};
+ghost use Rattle.dpl_calls.specs.Unfolding.{figures_of};
 ghost use Rattle.dpl_calls.specs.Totals.{total_of, own_calls};
 ghost use Rattle.dpl_calls.specs.Placement.{apply, IsNear, IsCornerNear};
 ghost use Rattle.dpl_calls.specs.Table.{bodies_of};
@@ -78,7 +78,7 @@ pub fn unfold_table(alloc: Global, table: &Table, depth: usize) -> Result<Vec<Fi
         ≤ MOST_CALLS }
     requires deep { 0 < depth }
     ensures { IfOk result (λ v.
-        v.items ≡ figures_of depth (bodies_of table.now) unmoved (bodies_of table.now None)) }
+        v.items ≡ figures_of depth (bodies_of table.now) (λ c. c) (bodies_of table.now None)) }
 {
     let mut figures = Vec::new(alloc);
     let mut stack = Vec::new(alloc);

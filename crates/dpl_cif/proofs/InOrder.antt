@@ -18,9 +18,10 @@ use Rattle.dpl_cell.specs.Outlines.{Outline}
 use Rattle.dpl_calls.specs.declared.figure.Corner.{Corner}
 use Rattle.dpl_calls.specs.declared.figure.Figure.{Figure}
 use Rattle.dpl_calls.specs.declared.figure.Figure.TheVariants as figure
-use Rattle.dpl_calls.specs.Parts.{Part, Bodies, corner, is_same, where_true, parts_of, parts_from, rectangle, scaled_corner}
+use Rattle.dpl_calls.specs.Parts.{Part, Bodies, corner, is_same, parts_of, parts_from, rectangle, scaled_corner}
+use Rattle.dpl_calls.specs.Put.{where_true}
 use Rattle.dpl_calls.specs.Parts.Part.{Drawn, Called}
-use Rattle.dpl_calls.specs.Unfolding.{placed, unmoved, part_figures, figures_of, extent_between}
+use Rattle.dpl_calls.specs.Unfolding.{placed, part_figures, figures_of, extent_between}
 use Rattle.dpl_calls.specs.Kept.{IsSound, IsPartKept}
 use Rattle.dpl_cif.specs.Drawn.{drawn, corner_place}
 use Rattle.dpl_cif.specs.Reading.{forms_of}
@@ -33,12 +34,12 @@ min_is a b h = grind (arith, ints)
 pub max_is : (a b : ℤ) → a <ℤ b → int_max a b ≡ b
 max_is a b h = grind (arith, ints)
 
-map_unmoved : (cs : List Corner) → map unmoved cs ≡ cs
+map_unmoved : (cs : List Corner) → map (λ c. c) cs ≡ cs
 map_unmoved [] = refl
 map_unmoved (c ∷ cs) = ap (λ (ds : List Corner). c ∷ ds) (map_unmoved cs)
 
 -- where nothing is moved figures stay
-stays : (f : Figure) → IsSound f → placed unmoved f ≡ f
+stays : (f : Figure) → IsSound f → placed (λ c. c) f ≡ f
 stays (figure.Rectangle e) s = rw (min_is e.x1 e.x2 s.0, min_is e.y1 e.y2 s.1, max_is e.x1 e.x2 s.0, max_is e.y1 e.y2 s.1) refl
 stays (figure.Polygon cs) s = ap (λ (ds : List Corner). figure.Polygon ds) (map_unmoved cs)
 
@@ -49,7 +50,7 @@ is_drawn (Called n moves) = false
 
 own_figures : (bodies : Bodies) (inner : (Corner → Corner) → List Part → List Figure) (ps : List Part)
     → list_all is_drawn ps ≡ true → All IsPartKept ps
-    → map drawn (flat_map (part_figures bodies inner unmoved) ps) ≡ own_outlines ps
+    → map drawn (flat_map (part_figures bodies inner (λ c. c)) ps) ≡ own_outlines ps
 own_figures bodies inner [] d k = refl
 own_figures bodies inner (Drawn f ∷ ps) d k =
     rw (stays f (k 0 (Drawn f) (omega arith)).1) (ap (λ (os : List Outline). drawn f ∷ os) (own_figures bodies inner ps d (λ i x h. k (suc i) x (omega arith))))
@@ -119,7 +120,7 @@ first_none (Some f) b h = cc
 
 pub all_drawn : (layer text : List ℕ) (depth : ℕ) → All IsPartKept (parts_from layer at_first (forms_of text) None) →
     list_all is_no_call (forms_of text) ≡ true → map drawn
-    (figures_of (suc depth) (parts_from layer at_first (forms_of text)) unmoved
+    (figures_of (suc depth) (parts_from layer at_first (forms_of text)) (λ c. c)
     (parts_from layer at_first (forms_of text) None)) ≡ drawn_in_order layer at_first (forms_of text)
 all_drawn layer text depth kept h =
     own_figures (parts_from layer at_first (forms_of text))

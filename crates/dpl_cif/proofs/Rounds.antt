@@ -12,7 +12,7 @@ use Rattle.dpl_calls.specs.declared.table.CallSite.{CallSite}
 use Rattle.dpl_calls.specs.declared.table.Table.{Table}
 use Rattle.dpl_calls.specs.Parts.{Bodies}
 use Rattle.dpl_calls.specs.Loops.{sites_from, numbers_from, first_site, is_missing, is_looped}
-use Rattle.dpl_calls.specs.Unfolding.{figures_of, unmoved}
+use Rattle.dpl_calls.specs.Unfolding.{figures_of}
 use Rattle.dpl_calls.specs.Totals.{total_of, own_calls, own_weight}
 use Rattle.dpl_calls.specs.Kept.{IsPartKept, AreKept}
 use Rattle.dpl_calls.specs.Table.{bodies_of}
@@ -60,13 +60,13 @@ module _ (layer text : List ℕ) (t : Table) (s : IsScanned layer (forms_of text
       first_site (is_looped (length (keys t.definitions)) (bodies_of t)) Loop written ≡ None
       → Gives result (within_limits (total_of own_weight depth (bodies_of t) (bodies_of t None))
       (total_of own_calls depth (bodies_of t) (bodies_of t None))
-      (map drawn (figures_of depth (bodies_of t) unmoved (bodies_of t None))))
+      (map drawn (figures_of depth (bodies_of t) (λ c. c) (bodies_of t None))))
       → Gives result (reading layer text)
   gives_limits result depth ed e m l h =
       let same : bodies_of t ≡ bodies_in layer text = bodies_same layer (forms_of text) (ending_of text) t s in
       let deep : depth ≡ depth_of text = ed ∙ ap (λ (n : ℕ). n + 1) count_same in
       let all : ℕ → Bodies → Reading = λ n b. within_limits (total_of own_weight n b (b None))
-      (total_of own_calls n b (b None)) (map drawn (figures_of n b unmoved (b None))) in
+      (total_of own_calls n b (b None)) (map drawn (figures_of n b (λ c. c) (b None))) in
       let moved : all depth (bodies_of t) ≡ all (depth_of text) (bodies_in layer text) =
       ap (λ (n : ℕ). all n (bodies_of t)) deep ∙ ap (λ (b : Bodies). all (depth_of text) b) same in
       let clear : all (depth_of text) (bodies_in layer text) ≡ reading layer text =

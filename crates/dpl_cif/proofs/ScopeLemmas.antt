@@ -10,7 +10,8 @@ use Rattle.dpl_rules.specs.declared.command.Command.{Command}
 use Rattle.dpl_rules.specs.declared.command.Command.TheVariants.{Idle, Polygon, Box, Wire, Flash, Layer, Start, Finish, Delete, Call}
 use Rattle.dpl_rules.specs.declared.scope.Scope.{Scope}
 use Rattle.dpl_rules.specs.Rules.{one_to_one, at_first, after, is_chosen}
-use Rattle.dpl_calls.specs.Parts.{parts_of, where_true}
+use Rattle.dpl_calls.specs.Parts.{parts_of}
+use Rattle.dpl_calls.specs.Put.{where_true}
 use Rattle.dpl_cif.specs.Scopes.{is_plain, behind, IsOutside, covers}
 
 -- ---- definitions

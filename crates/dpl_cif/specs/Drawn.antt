@@ -12,7 +12,7 @@ corner_place c = (c.x, c.y)
 -- the part of the layer that a figure is
 abbrev pub drawn : Figure → Outline
 drawn (figure.Rectangle e) = Box (record { x1 = e.x1; y1 = e.y1; x2 = e.x2; y2 = e.y2 })
-drawn (figure.Polygon corners) = Polygon (map corner_place corners)
+drawn (figure.Polygon corners) = Polygon (map (λ (c : Corner). (c.x, c.y)) corners)
 
 -- the greater magnitude of two coordinates
 abbrev pub place_reach : ℤ × ℤ → ℕ

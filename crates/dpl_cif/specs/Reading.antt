@@ -11,7 +11,7 @@ use Rattle.dpl_rules.specs.Rules.{Fault, at_first}
 use Rattle.dpl_cell.specs.Outlines.{Outline}
 use Rattle.dpl_calls.specs.Parts.{Bodies, parts_from}
 use Rattle.dpl_calls.specs.Loops.{numbers_from, fault_of}
-use Rattle.dpl_calls.specs.Unfolding.{figures_of, unmoved}
+use Rattle.dpl_calls.specs.Unfolding.{figures_of}
 use Rattle.dpl_calls.specs.Totals.{total_of, own_calls, own_weight, shown}
 use Rattle.dpl_cif.specs.Drawn.{drawn, reach}
 
@@ -38,7 +38,7 @@ depth_of text = length (numbers_from [] (forms_of text)) + 1
 -- the boxes and polygons of the layer after all calls, in the order in which these are carried out
 abbrev pub primitives_of : List ℕ → List ℕ → List Outline
 primitives_of layer text =
-    map drawn (figures_of (depth_of text) (bodies_in layer text) unmoved
+    map drawn (figures_of (depth_of text) (bodies_in layer text) (λ c. c)
     (bodies_in layer text None))
 
 -- how many primitives these are, a polygon counted as many times as it has points

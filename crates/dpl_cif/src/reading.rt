@@ -12,7 +12,7 @@ ghost use Rattle.dpl_calls.specs.Places.{graph_of};
 ghost use Rattle.dpl_calls.specs.Counted.{HasNoLoop};
 ghost use Rattle.dpl_calls.specs.Scanned.{IsScanned};
 ghost use Rattle.dpl_calls.specs.Kept.{AreKept};
-ghost use Rattle.dpl_calls.specs.Unfolding.{figures_of, unmoved};
+ghost use Rattle.dpl_calls.specs.Unfolding.{figures_of};
 ghost use Rattle.dpl_calls.specs.Totals.{total_of, own_calls, own_weight};
 ghost use Rattle.dpl_cif.specs.Drawn.{drawn};
 ghost use Rattle.dpl_cif.specs.Reading.{forms_of, ending_of, within_limits, reading, primitives_of};
@@ -43,7 +43,7 @@ fn limited(alloc: Global, table: &Table, groups: &Groups, depth: usize) -> Resul
     ensures { Gives result (within_limits (total_of own_weight depth (bodies_of table.now)
         (bodies_of table.now None)) (total_of own_calls depth (bodies_of table.now)
         (bodies_of table.now None)) (map drawn
-        (figures_of depth (bodies_of table.now) unmoved (bodies_of table.now None)))) }
+        (figures_of depth (bodies_of table.now) (λ c. c) (bodies_of table.now None)))) }
 {
     let Ok(count) = total(alloc, Count::Weight, table, groups) else {
         return Err(CifError::NoMemory);

@@ -28,7 +28,7 @@ use Rattle.dpl_report.specs.declared.marks.Broken.{Broken}
 use Rattle.dpl_options.specs.Options.{PlainOptions, IsSplitLayer, AreOptions}
 use Rattle.dpl_report.specs.declared.params.Params.{Params}
 use Rattle.dpl_report.specs.Plain.{PlainZone, PlainReport}
-use Rattle.dpl_report.specs.Valid.{IsNumber, AreMore, IsParams, IsCounts, IsZone, IsCycle, IsReport, CutFits, ClashFits, AsideFits}
+use Rattle.dpl_report.specs.Valid.{IsIdentifier, AreMore, IsParams, IsCounts, IsZone, IsCycle, IsReport, CutFits, ClashFits, AsideFits}
 use Rattle.dpl_good.specs.Conditions.{params_of_options, AreAsked, corner_weight, is_stitch, is_broken_stitch}
 use Rattle.dpl_good.specs.Conditions.{is_broken_clash, where_zone, where_broken, cuts_after, cuts_from, clashes_from}
 use Rattle.dpl_good.specs.Verdicts.{counts_of_net}
@@ -140,7 +140,7 @@ aside_rises net n m = (aside_fits net n m).0
 
 -- ---- cycles
 
-passed_fit : (g : Signed) (v w : ℕ) (es : List ℕ) → length g.edges ≤ 400000 → IsPath g v es w → AllByRecursion IsNumber es
+passed_fit : (g : Signed) (v w : ℕ) (es : List ℕ) → length g.edges ≤ 400000 → IsPath g v es w → AllByRecursion IsIdentifier es
 passed_fit g v w [] l p = tt
 passed_fit g v w (e ∷ es) l p = (omega (arith, (leaves_ends g e v p.0).inside, l), passed_fit g (across (edge_at g e) v) w es l p.1)
 

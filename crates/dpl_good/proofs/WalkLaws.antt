@@ -8,7 +8,7 @@ use Rattle.dpl_sign.specs.declared.walks.Walk.{Walk}
 use Rattle.dpl_sign.specs.Colourings.{agree}
 use Rattle.dpl_sign.specs.Kinds.{is_clash}
 use Rattle.dpl_sign.specs.Walks.{edge_at, across, leaves, IsPath, clashes, IsOddWalk}
-use Rattle.dpl_good.specs.Conditions.{end_of, end_miss, walk_miss, parity_after}
+use Rattle.dpl_good.specs.Conditions.{miss_at_end, end_miss, walk_miss, parity_after}
 
 bit : Bool → ℕ
 bit true = 1
@@ -45,7 +45,7 @@ record Goes (g : Signed) (start : ℕ) (es : List ℕ) (place v : ℕ) (before :
 
 end_goes : (g : Signed) (cycle start place v : ℕ) (before : Bool) → end_miss cycle start place v before ≡ None → (place ≢ 1) × (v ≡ start) × (before ≡ true)
 end_goes g cycle start place v before e = ends (place == 1) (v == start) before refl refl e where
-  ends : (p q o : Bool) → (place == 1) ≡ p → (v == start) ≡ q → end_of p q o cycle place ≡ None → (place ≢ 1) × (v ≡ start) × (o ≡ true)
+  ends : (p q o : Bool) → (place == 1) ≡ p → (v == start) ≡ q → miss_at_end p q o cycle place ≡ None → (place ≢ 1) × (v ≡ start) × (o ≡ true)
   ends true q o a b e = absurd (cc)
   ends false false o a b e = absurd (cc)
   ends false true false a b e = absurd (cc)

@@ -191,13 +191,13 @@ aside_miss listed wanted = lists_miss (λ e. e) (λ e w. None) listed wanted
 -- ---- 7: each cycle line is an odd walk from its start
 
 -- Where a walk ends: one past the last place where it is empty or does not end at its start, and else that it passes clashes an even number of times.
-abbrev pub end_of : Bool → Bool → Bool → ℕ → ℕ → Option Miss
-end_of empty closed odd cycle place = if empty || not closed
+abbrev pub miss_at_end : Bool → Bool → Bool → ℕ → ℕ → Option Miss
+miss_at_end empty closed odd cycle place = if empty || not closed
     then Some (miss cycle (pos place) (pos 0))
     else (if odd then None else Some (miss cycle (pos 0) (pos 1)))
 
 abbrev pub end_miss : ℕ → ℕ → ℕ → ℕ → Bool → Option Miss
-end_miss cycle start place v odd = end_of (place == 1) (v == start) odd cycle place
+end_miss cycle start place v odd = miss_at_end (place == 1) (v == start) odd cycle place
 
 -- the node is one of the ends
 abbrev pub meets : Edge → ℕ → Bool

@@ -6,7 +6,7 @@ use dpl_list::Items;
 use dpl_test_nets::nets::At::{
     East, North, NorthEast, NorthWest, South, SouthEast, SouthWest, West,
 };
-use dpl_test_nets::nets::{Link, clash, net};
+use dpl_test_nets::nets::{Link, bond, clash, net};
 use std::alloc::{AllocError, Global};
 use std::process::Abort;
 use std::test::Fail;
@@ -294,6 +294,31 @@ fn a_link_of_length_0(rt: HostRuntime) -> Result<(), Fail> {
     let (through, past) = (across(100, 100), across(99, 101));
     compare(&rt, rt.alloc(), 4, &through, &pairs, link(0, 1))?;
     compare(&rt, rt.alloc(), 4, &past, &pairs, link(0, 1))?;
+    Ok(())
+}
+
+/// The link of a bond is the middle of the side that its fragments share. A link of two others through that point crosses
+/// it, and one a unit beside it does not, but meets the fragment there.
+#[test]
+fn a_link_through_a_bond(rt: HostRuntime) -> Result<(), Fail> {
+    for (right, wanted) in [(150, link(0, 1)), (152, fragment(1, 1))] {
+        let corners = [
+            (0, 0, 100, 100),
+            (100, 0, 200, 100),
+            (50, -100, right, -50),
+            (50, 150, right, 200),
+        ];
+        let fragments = boxes(rt.alloc(), &corners)?;
+        let links = [
+            bond(0, 1, East(0), West(0)),
+            clash(2, 3, 10, North(0), South(0)),
+        ];
+        let net = net(rt.alloc(), 4, &links)?;
+        if net.graph.nodes as usize != fragments.rects.as_slice().len() {
+            return Err("not a node for each box")?;
+        }
+        assert_eq!(rt; crossing(rt.alloc(), &fragments, &net)?, wanted);
+    }
     Ok(())
 }
 

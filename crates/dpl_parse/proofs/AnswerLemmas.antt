@@ -9,7 +9,7 @@ use Rattle.dpl_report.specs.Plain.{PlainReport}
 use Rattle.dpl_parse.specs.Read.{plain_read}
 use Rattle.dpl_report.specs.ReportLines.{report_lines, report_text}
 use Rattle.dpl_report.specs.Valid.{IsReport}
-use Rattle.dpl_parse.specs.Tells.{Tells, Answers}
+use Rattle.dpl_parse.specs.Tells.{Tells, GivesReport}
 use Rattle.dpl_report.proofs.TextFormat.{text_is_found, text_is_read, text_is_wrong}
 
 pub answer_found : (text : List ℕ) (a : Result ReadReport ReportError) → Tells text a
@@ -17,7 +17,7 @@ pub answer_found : (text : List ℕ) (a : Result ReadReport ReportError) → Tel
 answer_found text (Ok r) t = text_is_found text (plain_read r) t
 answer_found text (Err e) t = tt
 
-pub answer_only : (text : List ℕ) (a : Result ReadReport ReportError) (r : PlainReport) → Tells text a → IsReport r → text ≡ report_text r → Answers r a
+pub answer_only : (text : List ℕ) (a : Result ReadReport ReportError) (r : PlainReport) → Tells text a → IsReport r → text ≡ report_text r → GivesReport r a
 answer_only text (Ok found) r t f e = let d = sym t ∙ text_is_read text r f e in cc
 answer_only text (Err NoMemory) r t f e = tt
 answer_only text (Err (NotReport n)) r t f e = let d = sym t.read ∙ text_is_read text r f e in absurd (cc)

@@ -8,7 +8,7 @@ use Rattle.dpl_report.specs.declared.marks.Broken.{Broken}
 use Rattle.dpl_report.specs.Plain.{PlainZone}
 use Rattle.dpl_report.specs.ReportLines.{numbered, aside_line, clash_line, cut_line, broken_numbers, zone_numbers}
 use Rattle.dpl_report.specs.Reading.{from_edge, item_aside, item_clash, item_cut}
-use Rattle.dpl_report.specs.Valid.{IsNumber, IsBroken, IsZone}
+use Rattle.dpl_report.specs.Valid.{IsIdentifier, IsBroken, IsZone}
 use Rattle.dpl_report.proofs.ItemLemmas.{aside_items, clash_items, cut_items, near, zone_near}
 use Rattle.dpl_report.proofs.LineLemmas.{IsNear}
 use Rattle.dpl_parse.specs.Standing.{Stand}
@@ -60,16 +60,16 @@ stands : (zs : List ℤ) (rest : List ℕ) → AllByRecursion IsNear zs → rest
 stands zs rest n e = record { near = n; ends = refl; is = e }
 
 pub no_aside : (l : List ℕ) → ((rest : List ℕ) → ¬ (l ≡ codes "(aside" ++ rest)) → (least : ℕ) → item_aside least l ≡ None
-no_aside l none = no_item item_aside aside_line (λ e. e) IsNumber aside_items l (λ e f is. none (numbered (pos e ∷ []) closing) is)
+no_aside l none = no_item item_aside aside_line (λ e. e) IsIdentifier aside_items l (λ e f is. none (numbered (pos e ∷ []) closing) is)
 
-pub no_aside_behind : (l rest : List ℕ) → l ≡ codes "(aside" ++ rest → ((e : ℕ) → IsNumber e → ¬ Stand (pos e ∷ []) closing rest)
+pub no_aside_behind : (l rest : List ℕ) → l ≡ codes "(aside" ++ rest → ((e : ℕ) → IsIdentifier e → ¬ Stand (pos e ∷ []) closing rest)
     → (least : ℕ) → item_aside least l ≡ None
-no_aside_behind l rest b none = no_item item_aside aside_line (λ e. e) IsNumber aside_items l (λ e f is.
+no_aside_behind l rest b none = no_item item_aside aside_line (λ e. e) IsIdentifier aside_items l (λ e f is.
     none e f (stands (pos e ∷ []) rest (near e f, tt) (ap (λ t. drop 6 t) (sym b ∙ is))))
 
-pub aside_there : (l rest : List ℕ) (e : ℕ) → l ≡ codes "(aside" ++ rest → IsNumber e → Stand (pos e ∷ []) closing rest
+pub aside_there : (l rest : List ℕ) (e : ℕ) → l ≡ codes "(aside" ++ rest → IsIdentifier e → Stand (pos e ∷ []) closing rest
     → (least : ℕ) → item_aside least l ≡ from_edge least e e
-aside_there l rest e b f s = the_item item_aside aside_line (λ e. e) IsNumber aside_items l e f (b ∙ ap (λ t. codes "(aside" ++ t) s.is)
+aside_there l rest e b f s = the_item item_aside aside_line (λ e. e) IsIdentifier aside_items l e f (b ∙ ap (λ t. codes "(aside" ++ t) s.is)
 
 pub no_clash : (l : List ℕ) → ((rest : List ℕ) → ¬ (l ≡ codes "(clash" ++ rest)) → (least : ℕ) → item_clash least l ≡ None
 no_clash l none = no_item item_clash clash_line (λ b. b.edge) IsBroken clash_items l (λ b f is. none (numbered (broken_numbers b) closing) is)

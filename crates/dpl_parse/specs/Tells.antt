@@ -22,7 +22,7 @@ Tells text (Err NoMemory) = Unit {0}
 Tells text (Err (NotReport n)) = StopsAt text n
 
 -- the answer is this report, unless memory ran out
-abbrev pub Answers : PlainReport → Result ReadReport ReportError → Type 0
-Answers r (Ok found) = plain_read found ≡ r
-Answers r (Err NoMemory) = Unit {0}
-Answers r (Err (NotReport n)) = ⊥
+abbrev pub GivesReport : PlainReport → Result ReadReport ReportError → Type 0
+GivesReport r (Ok found) = plain_read found ≡ r
+GivesReport r (Err NoMemory) = Unit {0}
+GivesReport r (Err (NotReport n)) = ⊥

@@ -4,7 +4,7 @@ ghost use Rattle.dpl_limits.specs.declared.TheConstants.{MOST_REPORT_BYTES};
 ghost use Rattle.dpl_form.specs.Lines.{lines_in};
 ghost use Rattle.dpl_form.specs.Readers.{whole, IsFirstWrong};
 ghost use Rattle.dpl_parse.specs.Gives.{Gives};
-ghost use Rattle.dpl_parse.specs.Tells.{Tells, Answers};
+ghost use Rattle.dpl_parse.specs.Tells.{Tells, GivesReport};
 ghost use Rattle.dpl_parse.specs.Read.{plain_read};
 ghost use Rattle.dpl_report.specs.Plain.{PlainReport};
 ghost use Rattle.dpl_report.specs.ReportLines.{report_lines, report_text};
@@ -105,7 +105,7 @@ pub fn parse<'a>(alloc: Global, text: &'a [u8]) -> Result<ReadReport<'a>, Report
     ensures found { IfOk result (λ r. IsReport (plain_read r) ×
         (text.now ≡ report_text (plain_read r))) }
     // What is written so is read, unless memory runs out.
-    ensures only { (r : PlainReport) → IsReport r → text.now ≡ report_text r → Answers r result }
+    ensures only { (r : PlainReport) → IsReport r → text.now ≡ report_text r → GivesReport r result }
     // Which line cannot stand.
     ensures wrong { (n : ℕ) → result ≡ Err (ReportError.NotReport n) →
         IsFirstWrong report_lines IsReport (lines_in text.now) n }

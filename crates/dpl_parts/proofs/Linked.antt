@@ -4,7 +4,7 @@ use Rattle.dpl_cycle.proofs.Least.{least_step, label_least}
 use Rattle.dpl_sign.specs.declared.nets.Net.{Net}
 use Rattle.dpl_sign.specs.Drawings.{is_in, dart_count, next_in_face, face_of}
 use Rattle.dpl_sign.specs.Excess.{kept_edges}
-use Rattle.dpl_sign.specs.Parity.{Separates, AreNeighbours, IsFacePath, AreOfOnePart, is_crossable}
+use Rattle.dpl_sign.specs.Parity.{Separates, AreAdjacentFaces, IsFacePath, AreOfOnePart, is_crossable}
 use Rattle.dpl_sign.proofs.OddCounts.{face_twice}
 use Rattle.dpl_sign.proofs.Rotation.{face_back, face_permutes, face_below}
 use Rattle.dpl_parts.specs.Parts.{IsPartOf, dart, face_at, AreOfOneKeptPart}
@@ -27,7 +27,7 @@ module _ (part whole : Net) (node edge : ℕ → ℕ) (h : IsPartOf part whole n
   crossable_alike : (e : ℕ) → e < length part.graph.edges → is_crossable whole q (edge e) ≡ is_crossable part p e
   crossable_alike e l = let a = alike e l in let k = h.kind e l in rw (a, k) refl
 
-  neighbours_there : (f g : ℕ) → AreNeighbours part p f g → AreNeighbours whole q (face_of whole q (dart edge f)) (face_of whole q (dart edge g))
+  neighbours_there : (f g : ℕ) → AreAdjacentFaces part p f g → AreAdjacentFaces whole q (face_of whole q (dart edge f)) (face_of whole q (dart edge g))
   neighbours_there f g (e, s) = (
     edge e,
     record {
@@ -60,7 +60,7 @@ module _ (part whole : Net) (node edge : ℕ → ℕ) (h : IsPartOf part whole n
   step_first : (f k d : ℕ) → f < dart_count part → face_of part p f ≡ f → d < length whole.graph.edges →
       is_crossable whole q d ≡ true → face_of whole q (2 * d) ≡ face_of whole q (dart edge f) →
       face_of whole q (2 * d + 1) ≡ k
-      → (g : ℕ) × (g < dart_count part) × (face_of part p g ≡ g) × AreNeighbours part p f g × (face_of whole q (dart edge g) ≡ k)
+      → (g : ℕ) × (g < dart_count part) × (face_of part p g ≡ g) × AreAdjacentFaces part p f g × (face_of whole q (dart edge g) ≡ k)
   step_first f k d l name low cross a b =
       let (x, lx, rx) = from_dart f (2 * d) l (omega arith) a in
       let e = x / 2 in
@@ -87,7 +87,7 @@ module _ (part whole : Net) (node edge : ℕ → ℕ) (h : IsPartOf part whole n
   step_second : (f k d : ℕ) → f < dart_count part → face_of part p f ≡ f → d < length whole.graph.edges →
       is_crossable whole q d ≡ true → face_of whole q (2 * d) ≡ k →
       face_of whole q (2 * d + 1) ≡ face_of whole q (dart edge f)
-      → (g : ℕ) × (g < dart_count part) × (face_of part p g ≡ g) × AreNeighbours part p f g × (face_of whole q (dart edge g) ≡ k)
+      → (g : ℕ) × (g < dart_count part) × (face_of part p g ≡ g) × AreAdjacentFaces part p f g × (face_of whole q (dart edge g) ≡ k)
   step_second f k d l name low cross a b =
       let (x, lx, rx) = from_dart f (2 * d + 1) l (omega arith) b in
       let e = x / 2 in
@@ -113,7 +113,7 @@ module _ (part whole : Net) (node edge : ℕ → ℕ) (h : IsPartOf part whole n
       )
 
   one_step : (f k d : ℕ) → f < dart_count part → face_of part p f ≡ f → Separates whole q d (face_of whole q (dart edge f)) k
-      → (g : ℕ) × (g < dart_count part) × (face_of part p g ≡ g) × AreNeighbours part p f g × (face_of whole q (dart edge g) ≡ k)
+      → (g : ℕ) × (g < dart_count part) × (face_of part p g ≡ g) × AreAdjacentFaces part p f g × (face_of whole q (dart edge g) ≡ k)
   one_step f k d l name s = elim s.sides [
     | inl (a, b) ↦ step_first f k d l name s.edge s.crossable a b
     | inr (a, b) ↦ step_second f k d l name s.edge s.crossable a b

@@ -6,13 +6,13 @@ use Rattle.dpl_cycle.specs.Names.{join}
 use Rattle.dpl_cycle.proofs.NameLemmas.{join_hit, join_miss}
 use Rattle.dpl_sign.specs.declared.nets.Net.{Net}
 use Rattle.dpl_sign.specs.Drawings.{dart_count, face_of}
-use Rattle.dpl_sign.specs.Parity.{is_crossable, AreNeighbours, IsFacePath, AreOfOnePart}
+use Rattle.dpl_sign.specs.Parity.{is_crossable, AreAdjacentFaces, IsFacePath, AreOfOnePart}
 use Rattle.dpl_sign.proofs.Rotation.{face_below}
 use Rattle.dpl_sign.proofs.ComponentLemmas.{join_of}
 
 -- ---- parts are classes
 
-neighbours_back : (net : Net) (set : ℕ → Bool) (f g : ℕ) → AreNeighbours net set f g → AreNeighbours net set g f
+neighbours_back : (net : Net) (set : ℕ → Bool) (f g : ℕ) → AreAdjacentFaces net set f g → AreAdjacentFaces net set g f
 neighbours_back net set f g n = (
   n.0,
   record {
@@ -30,7 +30,7 @@ path_join net set (x ∷ xs) ks f g h p q = (p.0, path_join net set xs ks x g h 
 part_join : (net : Net) (set : ℕ → Bool) (f g h : ℕ) → AreOfOnePart net set f g → AreOfOnePart net set g h → AreOfOnePart net set f h
 part_join net set f g h p q = (p.0 ++ q.0, path_join net set p.0 q.0 f g h p.1 q.1)
 
-part_of_neighbours : (net : Net) (set : ℕ → Bool) (f g : ℕ) → AreNeighbours net set f g → AreOfOnePart net set f g
+part_of_neighbours : (net : Net) (set : ℕ → Bool) (f g : ℕ) → AreAdjacentFaces net set f g → AreOfOnePart net set f g
 part_of_neighbours net set f g n = (g ∷ [], (n, refl))
 
 -- ---- names of the parts
@@ -47,7 +47,7 @@ names_alone net set names h = record {
 }
 
 sides_of : (net : Net) (set : ℕ → Bool) (e : ℕ) → e < length net.graph.edges → is_crossable net set e ≡ true
-    → AreNeighbours net set (face_of net set (2 * e)) (face_of net set (2 * e + 1))
+    → AreAdjacentFaces net set (face_of net set (2 * e)) (face_of net set (2 * e + 1))
 sides_of net set e h t = (e, record { edge = h; crossable = t; sides = inl (refl, refl) })
 
 joined_part : (net : Net) (set : ℕ → Bool) (names : ℕ → ℕ) (k : ℕ) → ArePartNames net set names k
@@ -127,7 +127,7 @@ names_cross net set names next k c h w = elim (cases_Bool (is_crossable net set 
 
 -- ---- with all edges
 
-first_below : (net : Net) (set : ℕ → Bool) (f g : ℕ) → AreNeighbours net set f g → f < dart_count net
+first_below : (net : Net) (set : ℕ → Bool) (f g : ℕ) → AreAdjacentFaces net set f g → f < dart_count net
 first_below net set f g n =
     let h = n.1.edge in
     let one = face_below net set (2 * n.0) (omega (arith, h)) in
@@ -135,7 +135,7 @@ first_below net set f g n =
     elim n.1.sides [ inl s ↦ omega (arith, s.0, one) | inr s ↦ omega (arith, s.1, two) ]
 
 neighbours_named : (net : Net) (set : ℕ → Bool) (names : ℕ → ℕ)
-    → ArePartNames net set names (length net.graph.edges) → (f g : ℕ) → AreNeighbours net set f g
+    → ArePartNames net set names (length net.graph.edges) → (f g : ℕ) → AreAdjacentFaces net set f g
     → names f ≡ names g
 neighbours_named net set names c f g n =
     let same = c.one_name n.0 n.1.edge n.1.crossable in

@@ -1,7 +1,7 @@
 // Faces on the two sides of a stitch or a clash, and chains of such faces.
 ghost use Rattle.std.specs.Prelude.{◌↔◌, ◌<◌, length, IfOk, IsTrue};
 ghost use Rattle.dpl_sign.specs.Drawings.{is_in as in_set};
-ghost use Rattle.dpl_sign.specs.Parity.{Separates, AreNeighbours, IsFacePath};
+ghost use Rattle.dpl_sign.specs.Parity.{Separates, AreAdjacentFaces, IsFacePath};
 
 use crate::parity::{face_name, is_crossable};
 use dpl_sign::Net;
@@ -35,7 +35,7 @@ pub fn are_neighbours(
     f: u32,
     g: u32,
 ) -> Result<bool, AllocError>
-    ensures { IfOk result (λ b. IsTrue b ↔ AreNeighbours net.now (in_set set.now) f g) }
+    ensures { IfOk result (λ b. IsTrue b ↔ AreAdjacentFaces net.now (in_set set.now) f g) }
 {
     for edge in 0..net.graph.edges.as_slice().len() as u32 {
         if separates(alloc, net, set, edge, f, g)? {

@@ -18,7 +18,7 @@ use Rattle.dpl_sign.proofs.ComponentLemmas.{component_joined, component_label}
 use Rattle.dpl_refine.specs.Pieces.{bonds_of, AreOnePiece, ArePieces}
 use Rattle.dpl_refine.specs.Components.{is_around, weight_in, cost_in, cost_around, ends_of, AreParts, is_of, cost_of_part}
 use Rattle.dpl_refine.specs.Refined.{IsSameAround, IsCheaperOrSame, IsCheaperOrSameAround, IsRefined}
-use Rattle.dpl_refine.specs.Gains.{piece_of, weighed_at, won_of, lost_of, turn}
+use Rattle.dpl_refine.specs.Gains.{piece_at, weighed_at, won_of, lost_of, turn}
 use Rattle.dpl_refine.proofs.TurnLemmas.{TurnsEnds, one_edge}
 use Rattle.dpl_refine.proofs.PieceLemmas.{bonds_in, bonds_out, AreBelow, piece_ends, AreTurned, both_cheaper}
 
@@ -163,22 +163,22 @@ both_around g a b c h m u l = elim (m u l) [
 -- ---- one piece turned over
 
 -- an edge with no end of the piece wins and loses nothing
-away : (broken : Bool) (piece : List ℕ) (p : ℕ) (colours : List Bool) (e : Edge) → piece_of piece e.a ≢ p → piece_of piece e.b ≢ p
+away : (broken : Bool) (piece : List ℕ) (p : ℕ) (colours : List Bool) (e : Edge) → piece_at piece e.a ≢ p → piece_at piece e.b ≢ p
     → weighed_at broken piece colours p e ≡ 0
 away broken piece p colours e n m =
-    ap (λ s. cond {A = ℕ} (not (agree s (piece_of piece e.b == p)) && agree broken (breaks colours e)) e.weight 0) (ne_eqb _ _ n)
+    ap (λ s. cond {A = ℕ} (not (agree s (piece_at piece e.b == p)) && agree broken (breaks colours e)) e.weight 0) (ne_eqb _ _ n)
     ∙ ap (λ s. cond {A = ℕ} (not (agree false s) && agree broken (breaks colours e)) e.weight 0) (ne_eqb _ _ m)
 
 record HasEnd (piece : List ℕ) (p : ℕ) (edges : List Edge) : Type 0 where
   place : ℕ
   inside : place < length edges
-  ends : (d : Edge) → (piece_of piece (get_or edges place d).a ≡ p) ⊎ (piece_of piece (get_or edges place d).b ≡ p)
+  ends : (d : Edge) → (piece_at piece (get_or edges place d).a ≡ p) ⊎ (piece_at piece (get_or edges place d).b ≡ p)
 
 ends_at : (piece : List ℕ) (p : ℕ) (colours : List Bool) (e : Edge) → weighed_at true piece colours p e ≢ 0
-    → (piece_of piece e.a ≡ p) ⊎ (piece_of piece e.b ≡ p)
-ends_at piece p colours e some = elim (cases_eq (piece_of piece e.a) p) [
+    → (piece_at piece e.a ≡ p) ⊎ (piece_at piece e.b ≡ p)
+ends_at piece p colours e some = elim (cases_eq (piece_at piece e.a) p) [
   | inl x ↦ inl x
-  | inr n ↦ elim (cases_eq (piece_of piece e.b) p) [
+  | inr n ↦ elim (cases_eq (piece_at piece e.b) p) [
     | inl y ↦ inr y
     | inr m ↦ absurd (some (away true piece p colours e n m))
   ]
@@ -196,12 +196,12 @@ won_end piece p colours (e ∷ edges) h = elim (cases_eq (weighed_at true piece 
 ]
 
 module _ (g : Signed) (piece : List ℕ) (count' : ℕ) (a : ArePieces g piece count') where
-  piece_around : (u v w : ℕ) → v < g.nodes → w < g.nodes → piece_of piece v ≡ piece_of piece w → is_around g u v ≡ is_around g u w
+  piece_around : (u v w : ℕ) → v < g.nodes → w < g.nodes → piece_at piece v ≡ piece_at piece w → is_around g u v ≡ is_around g u w
   piece_around u v w l m e = ap (λ c. c == component_of g all_edges u) (one_piece g v w ((a.same v w l m).0 e))
 
   -- where the piece lies in a component, that component wins and loses as the whole does
   abbrev LiesAround : ℕ → ℕ → Type 0
-  LiesAround u p = (v : ℕ) → v < g.nodes → piece_of piece v ≡ p → is_around g u v ≡ true
+  LiesAround u p = (v : ℕ) → v < g.nodes → piece_at piece v ≡ p → is_around g u v ≡ true
 
   edge_turned : (u p : ℕ) (old new : List Bool) → LiesAround u p → (k : ℕ) (d : Edge) → k < length g.edges
       → TurnsEnds piece p old new (get_or g.edges k d)
@@ -218,8 +218,8 @@ module _ (g : Signed) (piece : List ℕ) (count' : ℕ) (a : ArePieces g piece c
         | inr f ↦
             let one = ap (λ b. cond {A = ℕ} (b && breaks new e) e.weight 0) f in
             let two = ap (λ b. cond {A = ℕ} (b && breaks old e) e.weight 0) f in
-            let n : piece_of piece e.a ≢ p = λ q. both_ways _ f (lies e.a (start_below g k d l) q) in
-            let m : piece_of piece e.b ≢ p = λ q. both_ways _ (sym (edge_around g u k d l) ∙ f) (lies e.b (g.inside k d l) q) in
+            let n : piece_at piece e.a ≢ p = λ q. both_ways _ f (lies e.a (start_below g k d l) q) in
+            let m : piece_at piece e.b ≢ p = λ q. both_ways _ (sym (edge_around g u k d l) ∙ f) (lies e.b (g.inside k d l) q) in
             let three = away true piece p old e n m in
             let four = away false piece p old e n m in
             omega (arith, one, two, three, four)
@@ -231,7 +231,7 @@ module _ (g : Signed) (piece : List ℕ) (count' : ℕ) (a : ArePieces g piece c
       (weighed_at false piece old p) g.edges (λ k d l. edge_turned u p old new lies k d l (t k d l))
 
   -- a node of a piece that wins
-  won_node : (p : ℕ) (old : List Bool) → 0 < won_of g.edges piece old p → (w : ℕ) × (w < g.nodes) × (piece_of piece w ≡ p)
+  won_node : (p : ℕ) (old : List Bool) → 0 < won_of g.edges piece old p → (w : ℕ) × (w < g.nodes) × (piece_at piece w ≡ p)
   won_node p old h =
       let end = won_end piece p old g.edges h in
       let e = get_or g.edges end.place no_edge in
@@ -252,28 +252,28 @@ module _ (g : Signed) (piece : List ℕ) (count' : ℕ) (a : ArePieces g piece c
             let law = turned_in u p old new lies (piece_ends g piece count' a p old new c.length t) in
             inl (omega (arith, law, wins))
         | inr f ↦ inr (λ v m s.
-            let other : piece_of piece v ≢ p = λ e. both_ways _ (piece_around u v node.0 m node.1 (e ∙ sym node.2) ∙ f) s in
+            let other : piece_at piece v ≢ p = λ e. both_ways _ (piece_around u v node.0 m node.1 (e ∙ sym node.2) ∙ f) s in
             t v (omega (arith, m, long)) ∙ ap (λ b. turn b (colour_of old v)) (ne_eqb _ _ other))
       ]
 
 -- ---- other colours where they cost less
 
 module _ (g : Signed) (part : List ℕ) (count' : ℕ) (c : AreParts g part count') where
-  edge_part : All (EndsHaveOne (piece_of part)) g.edges
+  edge_part : All (EndsHaveOne (piece_at part)) g.edges
   edge_part k d l =
       let e = get_or g.edges k d in
       (c.same e.a e.b (start_below g k d l) (g.inside k d l)).1 (link_pair (ends_of g.edges) e.a e.b (end_there g.edges k d l))
 
   -- the number of a component tells its nodes
-  part_is : (u v : ℕ) → u < g.nodes → v < g.nodes → is_around g u v ≡ is_of part (piece_of part u) v
+  part_is : (u v : ℕ) → u < g.nodes → v < g.nodes → is_around g u v ≡ is_of part (piece_at part u) v
   part_is u v l m = elim (cases_Bool (is_around g u v)) [
     | inl y ↦
-        let label : ℕ → ℕ = piece_of part in
+        let label : ℕ → ℕ = piece_at part in
         let named = component_label g all_edges label (λ e i t. edge_part e no_edge i) in
         let one : label v ≡ label u = sym (named v) ∙ ap label (eqb-true _ _ y) ∙ named u in
         y ∙ sym (eq-eqb _ _ one)
     | inr f ↦
-        let apart : piece_of part v ≢ piece_of part u = λ e. both_ways _ f (eq-eqb _ _ (linked_ends g v u ((c.same v u m l).0 e))) in
+        let apart : piece_at part v ≢ piece_at part u = λ e. both_ways _ f (eq-eqb _ _ (linked_ends g v u ((c.same v u m l).0 e))) in
         f ∙ sym (ne_eqb _ _ apart)
   ]
 
@@ -291,8 +291,8 @@ module _ (g : Signed) (part : List ℕ) (count' : ℕ) (c : AreParts g part coun
         let f = start_below g k d l in
         let s = g.inside k d l in
         let m = o.length in
-        h e.a (omega (arith, f, m)) ∙ ap (λ x. cond (test (piece_of part e.a)) x (colour_of old e.a)) (t.bonds k d l b)
-        ∙ ap (λ x. cond (test (piece_of part e.a)) (colour_of tried e.b) x) (o.bonds k d l b)
+        h e.a (omega (arith, f, m)) ∙ ap (λ x. cond (test (piece_at part e.a)) x (colour_of old e.a)) (t.bonds k d l b)
+        ∙ ap (λ x. cond (test (piece_at part e.a)) (colour_of tried e.b) x) (o.bonds k d l b)
         ∙ ap (λ p. cond (test p) (colour_of tried e.b) (colour_of old e.b)) (edge_part k d l) ∙ sym (h e.b (omega (arith, s, m)));
   }
 
@@ -303,11 +303,11 @@ module _ (g : Signed) (part : List ℕ) (count' : ℕ) (c : AreParts g part coun
       → AreCosts tried after → AreChosen (λ p. nat_lt (get_or after p 0) (get_or before p 0)) old tried new
       → IsCheaperOrSameAround g old new
   chosen_around old tried new before after long b t h u l =
-      let p = piece_of part u in
+      let p = piece_at part u in
       let less : ℕ → Bool = λ q. nat_lt (get_or after q 0) (get_or before q 0) in
       let n = c.long in
       let below : p < count' = labels_below (ends_of g.edges) g.nodes part count' c u 0 (omega (arith, n, l)) in
-      let number : (v : ℕ) → v < g.nodes → is_around g u v ≡ true → less (piece_of part v) ≡ less p =
+      let number : (v : ℕ) → v < g.nodes → is_around g u v ≡ true → less (piece_at part v) ≡ less p =
       λ v m y. ap less (eqb-true _ _ (sym (part_is u v l m) ∙ y)) in
       elim (cases_Bool (less p)) [
         | inl y ↦

@@ -11,7 +11,7 @@ use Rattle.dpl_sign.specs.Kinds.{is_bond}
 use Rattle.dpl_sign.specs.Colourings.{IsColouring, colour_of, cost_of}
 use Rattle.dpl_refine.specs.Pieces.{bonds_of, ArePieces}
 use Rattle.dpl_refine.specs.Refined.{IsTurnedAt, IsSettled, IsCheaperOrSame}
-use Rattle.dpl_refine.specs.Gains.{piece_of, won_of, lost_of, turn}
+use Rattle.dpl_refine.specs.Gains.{piece_at, won_of, lost_of, turn}
 use Rattle.dpl_refine.proofs.TurnLemmas.{TurnsEnds, turned_cost}
 
 abbrev pub ends_of : Edge → ℕ × ℕ
@@ -78,20 +78,20 @@ module _ (g : Signed) (piece : List ℕ) (count' : ℕ) (a : ArePieces g piece c
 
   -- a bond lies in one piece
   pub bond_piece : (k : ℕ) (d : Edge) → k < length g.edges → is_bond (get_or g.edges k d).kind ≡ true
-      → piece_of piece (get_or g.edges k d).a ≡ piece_of piece (get_or g.edges k d).b
+      → piece_at piece (get_or g.edges k d).a ≡ piece_at piece (get_or g.edges k d).b
   bond_piece k d l t =
       let e = get_or g.edges k d in
       (a.same e.a e.b (first_below k d l) (g.inside k d l)).1 (link_pair (bonds_of g.edges) e.a e.b (bond_there g.edges k d l t))
 
   -- a node's piece is turned over
   pub turned_node : (u v : ℕ) (old new : List Bool) → u < g.nodes → v < g.nodes → IsTurnedAt g u old new
-      → colour_of new v ≡ turn (piece_of piece v == piece_of piece u) (colour_of old v)
-  turned_node u v old new l m t = elim (cases_Bool (piece_of piece v == piece_of piece u)) [
+      → colour_of new v ≡ turn (piece_at piece v == piece_at piece u) (colour_of old v)
+  turned_node u v old new l m t = elim (cases_Bool (piece_at piece v == piece_at piece u)) [
     | inl y ↦ t.inside v m ((a.same u v l m).0 (sym (eqb-true _ _ y))) ∙ sym (ap (λ s. turn s (colour_of old v)) y)
     | inr f ↦ t.others v m (λ joined. both_ways _ f (eq-eqb _ _ (sym ((a.same u v l m).1 joined)))) ∙ sym (ap (λ s. turn s (colour_of old v)) f)
   ]
 
-  pub turned_ends : (u : ℕ) (old new : List Bool) → u < g.nodes → IsTurnedAt g u old new → All (TurnsEnds piece (piece_of piece u) old new) g.edges
+  pub turned_ends : (u : ℕ) (old new : List Bool) → u < g.nodes → IsTurnedAt g u old new → All (TurnsEnds piece (piece_at piece u) old new) g.edges
   turned_ends u old new l t k d m = let e = get_or g.edges k d in record {
     first = turned_node u e.a old new l (first_below k d m) t;
     second = turned_node u e.b old new l (g.inside k d m) t;
@@ -102,7 +102,7 @@ module _ (g : Signed) (piece : List ℕ) (count' : ℕ) (a : ArePieces g piece c
   pub settled_by : (colours : List Bool) → ((p : ℕ) → p < count' → won_of g.edges piece colours p ≤ lost_of g.edges piece colours p)
       → IsSettled g colours
   settled_by colours h u others l t =
-      let p = piece_of piece u in
+      let p = piece_at piece u in
       let n = a.long in
       let below : p < count' = labels_below (bonds_of g.edges) g.nodes piece count' a u 0 (omega arith) in
       let law = turned_cost piece p colours others g.edges (turned_ends u colours others l t) in

@@ -8,7 +8,7 @@ use Rattle.dpl_sign.specs.declared.edges.Kind.TheVariants.{Bond, Stitch, Clash}
 use Rattle.dpl_sign.specs.declared.edges.Edge.{Edge}
 use Rattle.dpl_sign.specs.Kinds.{is_bond}
 use Rattle.dpl_sign.specs.Colourings.{agree, is_broken, colour_of, broken_weight}
-use Rattle.dpl_refine.specs.Gains.{piece_of, weighed_at, won_of, lost_of, turn}
+use Rattle.dpl_refine.specs.Gains.{piece_at, weighed_at, won_of, lost_of, turn}
 
 -- one edge: what it costs after both ends turned or not
 pub edge_law : (kind : Kind) (s t a b : Bool) (w : ℕ) → (is_bond kind ≡ true → s ≡ t) →
@@ -53,15 +53,15 @@ edge_law Clash false false false false w h = refl
 
 -- the ends of an edge have the colours that they had, turned over where they are of the piece, and a bond lies in one piece
 pub record TurnsEnds (piece : List ℕ) (p : ℕ) (old new : List Bool) (e : Edge) : Type 0 where
-  pub first : colour_of new e.a ≡ turn (piece_of piece e.a == p) (colour_of old e.a)
-  pub second : colour_of new e.b ≡ turn (piece_of piece e.b == p) (colour_of old e.b)
-  pub bond : is_bond e.kind ≡ true → piece_of piece e.a ≡ piece_of piece e.b
+  pub first : colour_of new e.a ≡ turn (piece_at piece e.a == p) (colour_of old e.a)
+  pub second : colour_of new e.b ≡ turn (piece_at piece e.b == p) (colour_of old e.b)
+  pub bond : is_bond e.kind ≡ true → piece_at piece e.a ≡ piece_at piece e.b
 
 pub one_edge : (piece : List ℕ) (p : ℕ) (old new : List Bool) (e : Edge) → TurnsEnds piece p old new e →
     broken_weight new e + weighed_at true piece old p e ≡ broken_weight old e + weighed_at false piece old p e
 one_edge piece p old new e t =
-    let s : Bool = piece_of piece e.a == p in
-    let r : Bool = piece_of piece e.b == p in
+    let s : Bool = piece_at piece e.a == p in
+    let r : Bool = piece_at piece e.b == p in
     let law = edge_law e.kind s r (colour_of old e.a) (colour_of old e.b) e.weight (λ b. ap (λ q. q == p) (t.bond b)) in
     let same : broken_weight new e ≡ cond {A = ℕ} (is_broken e.kind (turn s (colour_of old e.a)) (turn r (colour_of old e.b))) e.weight 0 =
     ap (λ x. cond {A = ℕ} (is_broken e.kind x (colour_of new e.b)) e.weight 0) t.first

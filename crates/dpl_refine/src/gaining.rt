@@ -1,7 +1,7 @@
 // What each piece wins and loses where it is turned over.
 ghost use Rattle.std.specs.Prelude.{◌≡◌, ◌+◌, ◌*◌, ◌<◌, ◌≤◌, ◌^◌, ◌==◌, ◌&&◌, if◌then◌else◌, ℕ, None, length, slice_index_or, All, IfOk, IfSome};
 ghost use Rattle.dpl_sign.specs.declared.edges.Edge.{Edge as PlainEdge};
-ghost use Rattle.dpl_refine.specs.Gains.{weighed_at, weight_of, won_of, lost_of};
+ghost use Rattle.dpl_refine.specs.Gains.{weighed_at, weight_out, won_of, lost_of};
 
 use dpl_sign::{Edge, broken};
 use std::alloc::{AllocError as NoMemory, Global};
@@ -49,7 +49,7 @@ fn add_edges(sums: &mut [u64], edges: &[Edge], piece: &[u32], colours: &[bool], 
     requires zero { (k : ℕ) → k < length sums.old → slice_index_or sums.old k 0 ≡ 0 }
     ensures long { length sums.new ≡ length sums.old }
     ensures each { (k : ℕ) → k < length sums.old → slice_index_or sums.new k 0
-        ≡ weight_of wanted edges.now piece.now colours.now k }
+        ≡ weight_out wanted edges.now piece.now colours.now k }
 {
     for edge in edges {
         add_edge(sums, edge, piece, colours, wanted);
@@ -71,7 +71,7 @@ fn weights(
     requires within { All (λ c. c < count) piece.now }
     ensures long { IfOk result (λ v. length v.items ≡ count) }
     ensures each { IfOk result (λ v. (k : ℕ) → k < count → slice_index_or v.items k 0
-        ≡ weight_of wanted edges.now piece.now colours.now k) }
+        ≡ weight_out wanted edges.now piece.now colours.now k) }
 {
     let mut sums = vec![in alloc; 0; count as usize]?;
     add_edges(sums.as_mut_slice(), edges, piece, colours, wanted);

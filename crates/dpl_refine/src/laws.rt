@@ -3,7 +3,7 @@ ghost use Rattle.std.specs.Prelude.{◌≡◌, ◌+◌, ◌<◌, ◌≤◌, ℕ,
 ghost use Rattle.dpl_sign.specs.Colourings.{IsColouring, cost_of};
 ghost use Rattle.dpl_refine.specs.Pieces.{ArePieces};
 ghost use Rattle.dpl_refine.specs.Refined.{IsRefined, IsTurnedAt};
-ghost use Rattle.dpl_refine.specs.Gains.{piece_of, won_of, lost_of};
+ghost use Rattle.dpl_refine.specs.Gains.{piece_at, won_of, lost_of};
 
 use dpl_sign::Signed;
 
@@ -13,8 +13,8 @@ pub fn turns_cost(graph: &Signed, piece: &[u32], node: u32, old: &[bool], new: &
     requires node { node < graph.now.nodes }
     requires turned { IsTurnedAt graph.now node old.now new.now }
     ensures { (count : ℕ) → ArePieces graph.now piece.now count →
-        cost_of graph.now new.now + won_of graph.now.edges piece.now old.now (piece_of piece.now node) ≡
-        cost_of graph.now old.now + lost_of graph.now.edges piece.now old.now (piece_of piece.now node) }
+        cost_of graph.now new.now + won_of graph.now.edges piece.now old.now (piece_at piece.now node) ≡
+        cost_of graph.now old.now + lost_of graph.now.edges piece.now old.now (piece_at piece.now node) }
 {}
 
 /// Colours of which a piece is turned over still agree at bonds.

@@ -14,7 +14,7 @@ use Rattle.dpl_boxes.proofs.ReadingLemmas.{name_bytes}
 use Rattle.dpl_form.specs.Readers.{FitFrom}
 use Rattle.dpl_options.specs.Options.{IsSplitLayer}
 use Rattle.dpl_report.specs.Plain.{PlainHead, PlainLists}
-use Rattle.dpl_report.specs.ReportLines.{numbered, bracketed, letter, count_line, layer_line, keep_line, version_line}
+use Rattle.dpl_report.specs.ReportLines.{numbered, bracketed, mask_letter, count_line, layer_line, keep_line, version_line}
 use Rattle.dpl_report.specs.ReportLines.{more_lines, masks_line, broken_numbers, zone_numbers, cycle_numbers, cut_line}
 use Rattle.dpl_report.specs.ReportLines.{clash_line, aside_line, cycle_line, head_lines, lists_lines}
 use Rattle.dpl_report.specs.Valid.{IsCount, AreMore, IsHead, IsCycle, IsLists, CutFits, ClashFits, AsideFits}
@@ -84,14 +84,14 @@ comment_bytes-name name f =
 layer_is_comment : (name : List ℕ) → IsSplitLayer name → IsComment (layer_line name)
 layer_is_comment name f = record { inner = codes "layer " ++ name; bytes = comment_bytes-name name f; line = refl }
 
-comment_bytes-letters : (colours : List Bool) → list_all is_comment_byte (map letter colours) ≡ true
+comment_bytes-letters : (colours : List Bool) → list_all is_comment_byte (map mask_letter colours) ≡ true
 comment_bytes-letters [] = refl
 comment_bytes-letters (true ∷ cs) = comment_bytes-letters cs
 comment_bytes-letters (false ∷ cs) = comment_bytes-letters cs
 
 masks_is_comment : (colours : List Bool) → IsComment (masks_line colours)
 masks_is_comment colours = record {
-  inner = codes "masks " ++ map letter colours;
+  inner = codes "masks " ++ map mask_letter colours;
   bytes = comment_bytes-letters colours;
   line = refl;
 }

@@ -19,7 +19,7 @@ use Rattle.dpl_form.proofs.Formats.{IsItem, AreItems}
 use Rattle.dpl_report.specs.declared.marks.Broken.{Broken}
 use Rattle.dpl_report.specs.Plain.{PlainZone}
 use Rattle.dpl_report.specs.ReportLines.{count_line, cut_line, clash_line, aside_line, cycle_line, broken_numbers, zone_numbers, cycle_numbers}
-use Rattle.dpl_report.specs.Valid.{IsNumber, IsCount, IsBroken, IsZone, IsCycle, CutFits, ClashFits, AsideFits}
+use Rattle.dpl_report.specs.Valid.{IsIdentifier, IsCount, IsBroken, IsZone, IsCycle, CutFits, ClashFits, AsideFits}
 use Rattle.dpl_report.specs.Reading.{numbers_in, if_written, item_by, up_to, number_of, count_of, count_from}
 use Rattle.dpl_report.specs.Reading.{item_count, ends_from, broken_from, from_edge, item_clash, is_stretch}
 use Rattle.dpl_report.specs.Reading.{rectangle_of, corners_from, zone_from, item_cut, aside_from, item_aside, edges_of}
@@ -106,20 +106,20 @@ pub count_item : (word : List ℕ) → list_all is_separator word ≡ true → I
 count_item word h = item_of_guess count_from (count_line word) (λ n. pos n ∷ []) IsCount count_guess
     (λ n l. numbers_in-bracketed word (pos n ∷ []) h (l, tt)) 0 (omega arith)
 
-aside_guess : IsGuess aside_from (λ e. pos e ∷ []) IsNumber
+aside_guess : IsGuess aside_from (λ e. pos e ∷ []) IsIdentifier
 aside_guess = record { fits = fits; again = λ n l. up_to_again 4294967295 n l } where
-  fits : (zs : List ℤ) (n : ℕ) → aside_from zs ≡ Some n → IsNumber n
+  fits : (zs : List ℤ) (n : ℕ) → aside_from zs ≡ Some n → IsIdentifier n
   fits [] n e = absurd (cc)
   fits (z ∷ []) n e = up_to_fits 4294967295 z n e
   fits (z ∷ y ∷ zs) n e = absurd (cc)
 
 -- a number of a report is one that a line can hold
-pub near : (n : ℕ) → IsNumber n → IsNear (pos n)
+pub near : (n : ℕ) → IsIdentifier n → IsNear (pos n)
 near n l = omega arith
 
 -- an edge set aside, from a least one on, is read from its line alone
 pub aside_items : AreItems item_aside aside_line AsideFits
-aside_items = items_of_guess aside_from aside_line (λ e. pos e ∷ []) (λ e. e) IsNumber aside_guess
+aside_items = items_of_guess aside_from aside_line (λ e. pos e ∷ []) (λ e. e) IsIdentifier aside_guess
     (λ n l. numbers_in-bracketed (codes "aside") (pos n ∷ []) refl (near n l, tt))
 
 broken_fits : (e a b : ℤ) (x : Broken) → broken_from (e ∷ a ∷ b ∷ []) ≡ Some x → IsBroken x
@@ -216,7 +216,7 @@ cut_items = items_of_guess zone_from cut_line zone_numbers (λ z. z.at.edge) IsZ
 
 -- ---- cycles
 
-edges_fit : (zs : List ℤ) (es : List ℕ) → edges_of zs ≡ Some es → AllByRecursion IsNumber es
+edges_fit : (zs : List ℤ) (es : List ℕ) → edges_of zs ≡ Some es → AllByRecursion IsIdentifier es
 edges_fit [] [] h = tt
 edges_fit [] (e ∷ es) h = let bad : ◌≡◌ {A = List ℕ} [] (e ∷ es) = cc in absurd (cc)
 edges_fit (z ∷ zs) es h =
@@ -225,16 +225,16 @@ edges_fit (z ∷ zs) es h =
     let same : p.0 ∷ q.0 ≡ es = cc in
     rw (← same) (up_to_fits 4294967295 z p.0 p.1, edges_fit zs q.0 q.1)
 
-edges_again : (es : List ℕ) → AllByRecursion IsNumber es → edges_of (map pos es) ≡ Some es
+edges_again : (es : List ℕ) → AllByRecursion IsIdentifier es → edges_of (map pos es) ≡ Some es
 edges_again [] f = refl
 edges_again (e ∷ es) f = rw (up_to_again 4294967295 e f.0, edges_again es f.1) refl
 
 -- each of them is near
-pub edges_near : (es : List ℕ) → AllByRecursion IsNumber es → AllByRecursion IsNear (map pos es)
+pub edges_near : (es : List ℕ) → AllByRecursion IsIdentifier es → AllByRecursion IsNear (map pos es)
 edges_near [] f = tt
 edges_near (e ∷ es) f = (near e f.0, edges_near es f.1)
 
-cycle_by_test : (t : Bool) (half start e : ℕ) (es : List ℕ) (c : Cycle) → (half == 0) ≡ t → IsCount half → IsNumber start → AllByRecursion IsNumber (e ∷ es)
+cycle_by_test : (t : Bool) (half start e : ℕ) (es : List ℕ) (c : Cycle) → (half == 0) ≡ t → IsCount half → IsIdentifier start → AllByRecursion IsIdentifier (e ∷ es)
     → cond t None (Some (record { half = half; walk = record { start = start; edges = e ∷ es } })) ≡ Some c → IsCycle c
 cycle_by_test true half start e es c t h s f k = absurd (cc)
 cycle_by_test false half start e es c t h s f k =
@@ -242,8 +242,8 @@ cycle_by_test false half start e es c t h s f k =
     let some : 1 ≤ half = grind (arith, nat_tests) in
     rw (← same) (record { some = some; half = h; start = s; edges = f; not_empty = omega arith })
 
-cycle_with_fits : (half start : ℕ) (es : List ℕ) (c : Cycle) → IsCount half → IsNumber start
-    → AllByRecursion IsNumber es → cycle_with half start es ≡ Some c → IsCycle c
+cycle_with_fits : (half start : ℕ) (es : List ℕ) (c : Cycle) → IsCount half → IsIdentifier start
+    → AllByRecursion IsIdentifier es → cycle_with half start es ≡ Some c → IsCycle c
 cycle_with_fits half start [] c h s f k = absurd (cc)
 cycle_with_fits half start (e ∷ es) c h s f k = cycle_by_test (half == 0) half start e es c refl h s f k
 

@@ -12,7 +12,7 @@ use Rattle.dpl_lex.specs.Classes.{is_digit, is_separator, drop_while}
 use Rattle.dpl_lex.specs.Number.{greatest, signed_digits_at, digits_at, of_magnitude, of_negated, digits_value}
 use Rattle.dpl_lex.specs.declared.number.Num.{Num}
 use Rattle.dpl_lex.specs.declared.number.Num.TheVariants.{Nothing}
-use Rattle.dpl_rules.specs.Readers.{number_of, signed_of, repeated}
+use Rattle.dpl_rules.specs.Readers.{number_at_front, signed_of, repeated}
 use Rattle.dpl_boxes.specs.Masks.{box_line}
 use Rattle.dpl_boxes.specs.Lines.{is_flat}
 use Rattle.dpl_boxes.proofs.NumberLemmas.{has_no_digit, signed_of-signed_decimal}
@@ -24,7 +24,7 @@ use Rattle.std.proofs.lemmas.Bool.{and_parts, and_from}
 -- ---- what stands before a number
 
 abbrev number_with : Num × List ℕ → Option (ℤ × List ℕ)
-number_with p = number_of p.0 p.1
+number_with p = number_at_front p.0 p.1
 
 abbrev digits_or : Bool → Num → List ℕ → List ℕ → Num × List ℕ
 digits_or t n rest whole = cond t (n, rest) (Nothing, whole)

@@ -10,7 +10,7 @@ use Rattle.std.proofs.lemmas.Bool.{leb-true, le-leb, eqb-true, and_parts}
 use Rattle.std.proofs.lemmas.List.{take_at, length-replicate}
 use Rattle.dpl_lex.specs.Name.{is_name}
 use Rattle.dpl_form.proofs.Formats.{IsItem}
-use Rattle.dpl_report.specs.ReportLines.{letter, layer_line, keep_line, version_line, masks_line}
+use Rattle.dpl_report.specs.ReportLines.{mask_letter, layer_line, keep_line, version_line, masks_line}
 use Rattle.dpl_options.specs.Options.{IsSplitLayer}
 use Rattle.dpl_report.specs.Reading.{if_written, between, layer_from, item_layer, item_keep, item_version, colours_from, of_length, item_masks, item_line}
 use Rattle.dpl_report.proofs.ItemLemmas.{bind_some, if_written_some, if_written_same}
@@ -18,9 +18,9 @@ use Rattle.dpl_report.proofs.ItemLemmas.{bind_some, if_written_some, if_written_
 between-layer : (name : List ℕ) → between 7 (layer_line name) ≡ name
 between-layer name = take_at name (codes ");\n") (length (layer_line name) - 10) (omega (arith, length-append name (codes ");\n")))
 
-between-masks : (colours : List Bool) → between 7 (masks_line colours) ≡ map letter colours
-between-masks colours = take_at (map letter colours) (codes ");\n") (length (masks_line colours) - 10)
-    (omega (arith, length-append (map letter colours) (codes ");\n")))
+between-masks : (colours : List Bool) → between 7 (masks_line colours) ≡ map mask_letter colours
+between-masks colours = take_at (map mask_letter colours) (codes ");\n") (length (masks_line colours) - 10)
+    (omega (arith, length-append (map mask_letter colours) (codes ");\n")))
 
 between-keep : (name : List ℕ) → between 6 (keep_line name) ≡ name
 between-keep name = take_at name (codes ");\n") (length (keep_line name) - 9) (omega (arith, length-append name (codes ");\n")))
@@ -80,7 +80,7 @@ version_item = record {
   version_again true = refl
   version_again false = refl
 
-colours_again : (colours : List Bool) → colours_from (map letter colours) ≡ colours
+colours_again : (colours : List Bool) → colours_from (map mask_letter colours) ≡ colours
 colours_again [] = refl
 colours_again (true ∷ cs) = ap (λ xs. true ∷ xs) (colours_again cs)
 colours_again (false ∷ cs) = ap (λ xs. false ∷ xs) (colours_again cs)

@@ -34,11 +34,11 @@ abbrev pub keep_line : List ℕ → List ℕ
 keep_line name = codes "(keep " ++ name ++ codes ");\n"
 
 -- A or B
-abbrev pub letter : Bool → ℕ
-letter on_b = if on_b then 66 else 65
+abbrev pub mask_letter : Bool → ℕ
+mask_letter on_b = if on_b then 66 else 65
 
 abbrev pub masks_line : List Bool → List ℕ
-masks_line colours = codes "(masks " ++ map letter colours ++ codes ");\n"
+masks_line colours = codes "(masks " ++ map mask_letter colours ++ codes ");\n"
 
 abbrev pub broken_numbers : Broken → List ℤ
 broken_numbers b = pos b.edge ∷ pos b.a ∷ pos b.b ∷ []

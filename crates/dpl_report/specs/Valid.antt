@@ -12,8 +12,8 @@ use Rattle.dpl_report.specs.declared.params.Counts.{Counts}
 use Rattle.dpl_report.specs.Plain.{PlainZone, PlainHead, PlainLists, PlainReport}
 
 -- a number of an edge or a fragment
-abbrev pub IsNumber : ℕ → Type 0
-IsNumber n = n ≤ 4294967295
+abbrev pub IsIdentifier : ℕ → Type 0
+IsIdentifier n = n ≤ 4294967295
 
 -- a number of any other kind
 abbrev pub IsCount : ℕ → Type 0
@@ -54,9 +54,9 @@ pub record IsHead (h : PlainHead) : Type 0 where
   pub colours : length h.colours ≡ h.counts.fragments
 
 pub record IsBroken (at : Broken) : Type 0 where
-  pub edge : IsNumber at.edge
-  pub a : IsNumber at.a
-  pub b : IsNumber at.b
+  pub edge : IsIdentifier at.edge
+  pub a : IsIdentifier at.a
+  pub b : IsIdentifier at.b
 
 pub record IsZone (z : PlainZone) : Type 0 where
   pub ends : IsBroken z.at
@@ -66,8 +66,8 @@ pub record IsZone (z : PlainZone) : Type 0 where
 pub record IsCycle (c : Cycle) : Type 0 where
   pub some : 1 ≤ c.half
   pub half : IsCount c.half
-  pub start : IsNumber c.walk.start
-  pub edges : AllByRecursion IsNumber c.walk.edges
+  pub start : IsIdentifier c.walk.start
+  pub edges : AllByRecursion IsIdentifier c.walk.edges
   pub not_empty : 0 < length c.walk.edges
 
 -- such items, from an edge number on, ascending by edge and each edge once
@@ -78,7 +78,7 @@ abbrev pub ClashFits : ℕ → Broken → Type 0
 ClashFits least b = (least ≤ b.edge) × IsBroken b
 
 abbrev pub AsideFits : ℕ → ℕ → Type 0
-AsideFits least e = (least ≤ e) × IsNumber e
+AsideFits least e = (least ≤ e) × IsIdentifier e
 
 pub record IsLists (l : PlainLists) : Type 0 where
   pub cuts : FitFrom CutFits (λ z. z.at.edge + 1) 0 l.cuts

@@ -1,7 +1,7 @@
 //! The lines of a report, written. Each function puts its line behind what is there.
 ghost use Rattle.std.specs.Prelude.{◌≡◌, ◌++◌, ◌∷◌, [], pos, map, codes, OnOk};
 ghost use Rattle.dpl_report.specs.Plain.{plain_zone};
-ghost use Rattle.dpl_report.specs.ReportLines.{numbered, broken_numbers, count_line, layer_line, keep_line, version_line as the_version_line, masks_line, letter, cut_line, clash_line, aside_line, cycle_line, mask_line};
+ghost use Rattle.dpl_report.specs.ReportLines.{numbered, broken_numbers, count_line, layer_line, keep_line, version_line as the_version_line, masks_line, mask_letter, cut_line, clash_line, aside_line, cycle_line, mask_line};
 
 use crate::marks::{Broken, Zone};
 use dpl_boxes::push_spaced;
@@ -66,13 +66,13 @@ pub fn version_line(second: bool) -> &'static [u8]
 }
 
 fn letter_of(on_b: bool) -> u8
-    ensures { result ≡ letter on_b }
+    ensures { result ≡ mask_letter on_b }
 {
     if on_b { b'B' } else { b'A' }
 }
 
 fn push_letters(out: &mut Vec<u8>, colours: &[bool]) -> Result<(), NoMemory>
-    ensures { OnOk result (out.new.items ≡ out.old.items ++ map letter colours.now) }
+    ensures { OnOk result (out.new.items ≡ out.old.items ++ map mask_letter colours.now) }
 {
     for colour in colours {
         out.push(letter_of(*colour))?;

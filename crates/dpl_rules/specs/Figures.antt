@@ -81,14 +81,14 @@ abbrev pub slants : List Spot → Bool
 slants [] = false
 slants (p ∷ ps) = slants_from p ps
 
-abbrev pub last_of : Spot → List Spot → Spot
-last_of p [] = p
-last_of p (q ∷ qs) = last_of q qs
+abbrev pub last_spot : Spot → List Spot → Spot
+last_spot p [] = p
+last_spot p (q ∷ qs) = last_spot q qs
 
 -- so are two points of a polygon, its last and first among them
 abbrev pub slants_round : List Spot → Bool
 slants_round [] = false
-slants_round (p ∷ ps) = slants_from p ps || is_slanted (last_of p ps) p
+slants_round (p ∷ ps) = slants_from p ps || is_slanted (last_spot p ps) p
 
 -- a direction lies on an axis and is not (0, 0)
 abbrev pub is_straight : Spot → Bool

@@ -27,18 +27,18 @@ Reads view None read = read ≡ None
 abbrev pub beyond : ℕ
 beyond = 10 ^ 12 + 1
 
-abbrev pub number_of : Num → List ℕ → Option (ℤ × List ℕ)
-number_of (Value z) rest = Some (z, rest)
-number_of Big rest = Some (pos beyond, rest)
-number_of Nothing rest = None
+abbrev pub number_at_front : Num → List ℕ → Option (ℤ × List ℕ)
+number_at_front (Value z) rest = Some (z, rest)
+number_at_front Big rest = Some (pos beyond, rest)
+number_at_front Nothing rest = None
 
 -- an integer with a sign or without
 abbrev pub signed_of : List ℕ → Option (ℤ × List ℕ)
-signed_of bytes = number_of (signed_at bytes).0 (signed_at bytes).1
+signed_of bytes = number_at_front (signed_at bytes).0 (signed_at bytes).1
 
 -- an integer without a sign
 abbrev pub unsigned_of : List ℕ → Option (ℕ × List ℕ)
-unsigned_of bytes = number_of (unsigned_at bytes).0 (unsigned_at bytes).1 >>= λ n.
+unsigned_of bytes = number_at_front (unsigned_at bytes).0 (unsigned_at bytes).1 >>= λ n.
     Some (unsigned_abs n.0, n.1)
 
 abbrev pub spot : ℤ → ℤ → Spot

@@ -26,13 +26,7 @@ abbrev pub after : List ℕ → Scope → Command → Scope
 after chosen s (Layer name) = record s { layer = Some (bytes_eq name chosen) }
 after chosen s (Start n scale) =
     record { definition = Some n; layer = None; outer = s.layer; scale = scale }
-after chosen s Finish = record {
-  definition = None;
-  layer = s.outer;
-  outer = None;
-  scale =
-      one_to_one;
-}
+after chosen s Finish = record at_first { layer = s.outer }
 after chosen s c = s
 
 abbrev pub is_chosen : Option Bool → Bool
@@ -106,13 +100,13 @@ abbrev pub breaks_scale : Command → Bool
 breaks_scale (Start n scale) = scale.times == 0 || scale.over == 0
 breaks_scale c = false
 
-abbrev pub first_of : List (Bool × What) → Option What
-first_of [] = None
-first_of (rule ∷ rules) = if rule.0 then Some rule.1 else first_of rules
+abbrev pub first_broken : List (Bool × What) → Option What
+first_broken [] = None
+first_broken (rule ∷ rules) = if rule.0 then Some rule.1 else first_broken rules
 
 -- the first rule that a command breaks; its form and its bounds were tried before
 abbrev pub broken_rule : Scope → Bool → Command → Option What
-broken_rule s twice c = first_of (
+broken_rule s twice c = first_broken (
     (breaks_nest s c, what.Nest) ∷
     (twice, what.Twice) ∷
     (breaks_angle s c, what.Angle) ∷

@@ -38,13 +38,13 @@ pub record Separates (net : Net) (set : ℕ → Bool) (e f g : ℕ) : Type 0 whe
       ((face_of net set (2 * e) ≡ g) × (face_of net set (2 * e + 1) ≡ f))
 
 -- two faces are neighbours where an edge has one on each side
-abbrev pub AreNeighbours : Net → (ℕ → Bool) → ℕ → ℕ → Type 0
-AreNeighbours net set f g = (e : ℕ) × Separates net set e f g
+abbrev pub AreAdjacentFaces : Net → (ℕ → Bool) → ℕ → ℕ → Type 0
+AreAdjacentFaces net set f g = (e : ℕ) × Separates net set e f g
 
 -- these faces lead from f to g, each a neighbour of the one before
 abbrev pub IsFacePath : Net → (ℕ → Bool) → ℕ → List ℕ → ℕ → Type 0
 IsFacePath net set f [] g = f ≡ g
-IsFacePath net set f (h ∷ hs) g = AreNeighbours net set f h × IsFacePath net set h hs g
+IsFacePath net set f (h ∷ hs) g = AreAdjacentFaces net set f h × IsFacePath net set h hs g
 
 -- two faces are of one part where neighbours lead from one to the other
 abbrev pub AreOfOnePart : Net → (ℕ → Bool) → ℕ → ℕ → Type 0

@@ -11,7 +11,7 @@ use Rattle.dpl_form.proofs.TextLemmas.{text_of-lines_in, lines_in-line}
 use Rattle.dpl_sign.specs.declared.walks.Cycle.{Cycle}
 use Rattle.dpl_report.specs.ReportLines.{numbered, cycle_numbers, cycle_line}
 use Rattle.dpl_report.specs.Reading.{item_cycle}
-use Rattle.dpl_report.specs.Valid.{IsNumber, IsCycle}
+use Rattle.dpl_report.specs.Valid.{IsIdentifier, IsCycle}
 use Rattle.dpl_report.proofs.ItemLemmas.{cycle_item, cycle_near}
 use Rattle.dpl_report.proofs.LineLemmas.{IsNear, is_line-append, comment_bytes-signed}
 use Rattle.dpl_walks.specs.Cycles.{cycle_lines, cycles_in, cycle_text, edges_in, AreEdges, IsCycleBefore, IsSpaced, IsFront}
@@ -58,7 +58,7 @@ front_is half start edges after text a f =
 
 -- ---- whether a cycle line stands at the front
 
-no_first_edge : (es after edges : List ℕ) → 0 < length es → AllByRecursion IsNumber es → edges ≡ edges_text es after
+no_first_edge : (es after edges : List ℕ) → 0 < length es → AllByRecursion IsIdentifier es → edges ≡ edges_text es after
     → ¬ ((n : ℕ) (rest : List ℕ) → ¬ IsSpaced 4294967295 n rest edges)
 no_first_edge [] after edges l f e none = absurd (omega arith)
 no_first_edge (m ∷ es) after edges l f e none = none m (edges_text es after) (edge_there m es after edges f.0 e)

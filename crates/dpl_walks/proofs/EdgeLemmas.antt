@@ -5,7 +5,7 @@ use Rattle.std.specs.List.{AllByRecursion}
 use Rattle.dpl_boxes.specs.Masks.{spaced}
 use Rattle.dpl_boxes.specs.Written.{has_no_digit}
 use Rattle.dpl_report.specs.ReportLines.{numbered}
-use Rattle.dpl_report.specs.Valid.{IsNumber}
+use Rattle.dpl_report.specs.Valid.{IsIdentifier}
 use Rattle.dpl_report.proofs.ItemLemmas.{edges_near}
 use Rattle.dpl_report.proofs.LineLemmas.{numbers_in-numbered, closing_is_end}
 use Rattle.dpl_walks.specs.Cycles.{edges_in, AreEdges, IsSpaced}
@@ -24,13 +24,13 @@ numbers_again [] = refl
 numbers_again (e ∷ es) = ap (λ t. e ∷ t) (numbers_again es)
 
 -- the edges that were written are those in the text
-pub edges_in-text : (es text : List ℕ) → AllByRecursion IsNumber es → text ≡ edges_text es [] → edges_in text ≡ es
+pub edges_in-text : (es text : List ℕ) → AllByRecursion IsIdentifier es → text ≡ edges_text es [] → edges_in text ≡ es
 edges_in-text es text f e =
     let read = numbers_in-numbered 32 [] (map pos es) (codes ");\n") closing_is_end refl (edges_near es f) in
     ap edges_in e ∙ ap (λ zs. map unsigned_abs zs) read ∙ numbers_again es
 
 -- the first of some edges stands at the front
-pub edge_there : (n : ℕ) (es after text : List ℕ) → IsNumber n → text ≡ edges_text (n ∷ es) after → IsSpaced 4294967295 n (edges_text es after) text
+pub edge_there : (n : ℕ) (es after text : List ℕ) → IsIdentifier n → text ≡ edges_text (n ∷ es) after → IsSpaced 4294967295 n (edges_text es after) text
 edge_there n es after text f e = record { small = f; ends = no_digit-edges_text es after; is = e }
 
 -- no edge stands where the line ends
@@ -43,10 +43,10 @@ end_is_no_edge n rest after text e at =
 pub record AreOthers (n : ℕ) (es rest after : List ℕ) : Type 0 where
   pub others : List ℕ
   pub all : es ≡ n ∷ others
-  pub small : AllByRecursion IsNumber others
+  pub small : AllByRecursion IsIdentifier others
   pub is : rest ≡ edges_text others after
 
-others_of : (es : List ℕ) (n : ℕ) (rest after text : List ℕ) → AllByRecursion IsNumber es → text ≡ edges_text es after
+others_of : (es : List ℕ) (n : ℕ) (rest after text : List ℕ) → AllByRecursion IsIdentifier es → text ≡ edges_text es after
     → IsSpaced 4294967295 n rest text → AreOthers n es rest after
 others_of [] n rest after text f e at = absurd (end_is_no_edge n rest after text e at)
 others_of (m ∷ es) n rest after text f e at =
@@ -63,7 +63,7 @@ first_edge n rest text a at =
     let o = others_of a.edges n rest [] text a.small a.is at in
     edges_in-text a.edges text a.small a.is ∙ o.all ∙ ap (λ t. n ∷ t) (sym (edges_in-text o.others rest o.small o.is))
 
-no_edge_of : (es after text : List ℕ) → AllByRecursion IsNumber es → text ≡ edges_text es after → ((n : ℕ) (rest : List ℕ) → ¬ IsSpaced 4294967295 n rest text)
+no_edge_of : (es after text : List ℕ) → AllByRecursion IsIdentifier es → text ≡ edges_text es after → ((n : ℕ) (rest : List ℕ) → ¬ IsSpaced 4294967295 n rest text)
     → es ≡ []
 no_edge_of [] after text f e none = refl
 no_edge_of (m ∷ es) after text f e none = absurd (none m (edges_text es after) (edge_there m es after text f.0 e))

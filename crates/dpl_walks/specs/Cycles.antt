@@ -9,7 +9,7 @@ use Rattle.dpl_form.specs.Readers.{many}
 use Rattle.dpl_sign.specs.declared.walks.Cycle.{Cycle}
 use Rattle.dpl_report.specs.ReportLines.{numbered, cycle_numbers}
 use Rattle.dpl_report.specs.Reading.{numbers_in, item_cycle}
-use Rattle.dpl_report.specs.Valid.{IsNumber, IsCount, IsCycle}
+use Rattle.dpl_report.specs.Valid.{IsIdentifier, IsCount, IsCycle}
 
 -- the cycles of the cycle lines at the front, and the lines behind these
 abbrev pub cycle_lines : List (List ℕ) → List Cycle × List (List ℕ)
@@ -41,7 +41,7 @@ pub record IsCycleBefore (after text : List ℕ) : Type 0 where
 -- what is left of a cycle line behind some of its edges, and what follows the line
 pub record AreEdges (after text : List ℕ) : Type 0 where
   pub edges : List ℕ
-  pub small : AllByRecursion IsNumber edges
+  pub small : AllByRecursion IsIdentifier edges
   pub is : text ≡ numbered (map pos edges) (codes ");\n" ++ after)
 
 -- a number up to a limit stands at the front, and all its digits
@@ -60,6 +60,6 @@ pub record IsSpaced (most n : ℕ) (rest text : List ℕ) : Type 0 where
 pub record IsFront (half start : ℕ) (edges line : List ℕ) : Type 0 where
   pub some : 1 ≤ half
   pub half_is : IsCount half
-  pub start_is : IsNumber start
+  pub start_is : IsIdentifier start
   pub ends : has_no_digit edges ≡ true
   pub is : line ≡ codes "(cycle" ++ (spaced (pos half) ++ (spaced (pos start) ++ edges))

@@ -11,7 +11,7 @@ use Rattle.dpl_cell.specs.Ranges.{IsStretch, IsRectangle}
 use Rattle.dpl_lex.specs.Number.{greatest, signed_at}
 use Rattle.dpl_lex.specs.declared.number.Num.{Num}
 use Rattle.dpl_lex.specs.declared.number.Num.TheVariants.{Value, Big, Nothing}
-use Rattle.dpl_rules.specs.Readers.{number_of, beyond}
+use Rattle.dpl_rules.specs.Readers.{number_at_front, beyond}
 use Rattle.dpl_boxes.specs.Masks.{spaced}
 use Rattle.dpl_boxes.proofs.NumberLemmas.{signed_of-signed_decimal, has_no_digit}
 use Rattle.dpl_words.specs.Scripts.{PlainLine, plain_line, line_text, Fits, IsNoLine, IsScript, IsFirstBad}
@@ -21,7 +21,7 @@ use Rattle.dpl_words.specs.Scripts.PlainLine.{add, remove}
 use Rattle.dpl_words.specs.ScriptReading.{value_of, next_value, corners_read, number_read, behind}
 
 -- a number within the greatest magnitude is a value
-value_from : (p : Num × List ℕ) (z : ℤ) (rest : List ℕ) → unsigned_abs z ≤ greatest → number_of p.0 p.1 ≡ Some (z, rest) → value_of p ≡ Some (z, rest)
+value_from : (p : Num × List ℕ) (z : ℤ) (rest : List ℕ) → unsigned_abs z ≤ greatest → number_at_front p.0 p.1 ≡ Some (z, rest) → value_of p ≡ Some (z, rest)
 value_from (Value y, bytes) z rest l e = e
 value_from (Big, bytes) z rest l e =
     let q : pos beyond ≡ z = big (pos beyond) bytes z rest e in

@@ -3,7 +3,7 @@ use Rattle.indexmap.specs.IndexMap.{keys}
 use Rattle.dpl_calls.specs.declared.entry.Entry.{Entry}
 use Rattle.dpl_calls.specs.Parts.{Part}
 use Rattle.dpl_calls.specs.Totals.{total_of, shown}
-use Rattle.dpl_calls.specs.Table.{part_of, bodies_of}
+use Rattle.dpl_calls.specs.Table.{entry_part, bodies_of}
 use Rattle.dpl_calls.specs.Counted.{own_of, kept_of, kept_total}
 use Rattle.dpl_calls.proofs.Stable.{top_right}
 use Rattle.dpl_calls.proofs.totals.total.Goals as goal
@@ -13,10 +13,10 @@ returns c =
     let own : Part → ℕ = own_of c.args.count in
     let numbers : List ℕ = keys c.args.table.now.definitions in
     let count : ℕ = length c.args.table.now.definitions.entries in
-    let top : map part_of c.as_slice.result.now ≡ bodies_of c.args.table.now None = ap (λ (es : List Entry). map part_of es) c.as_slice.ensures.value in
+    let top : map entry_part c.as_slice.result.now ≡ bodies_of c.args.table.now None = ap (λ (es : List Entry). map entry_part es) c.as_slice.ensures.value in
     let value : c.entries_total.result ≡ shown (sum_by (kept_total own (kept_of numbers c.in_ok-totals.totals.items)) (bodies_of c.args.table.now None)) =
     c.entries_total.ensures.value
-    ∙ (ap (λ (ts : List ℕ). shown (sum_by (kept_total own (kept_of numbers ts)) (map part_of c.as_slice.result.now))) c.deref.ensures.value
+    ∙ (ap (λ (ts : List ℕ). shown (sum_by (kept_total own (kept_of numbers ts)) (map entry_part c.as_slice.result.now))) c.deref.ensures.value
     ∙ ap (λ (ps : List Part). shown (sum_by (kept_total own (kept_of numbers c.in_ok-totals.totals.items)) ps)) top) in
     let deep : suc count ≡ count + 1 = omega arith in
     (value

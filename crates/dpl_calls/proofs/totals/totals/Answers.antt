@@ -4,7 +4,7 @@ use Rattle.indexmap.specs.IndexMap.{keys, values}
 use Rattle.dpl_calls.specs.declared.entry.Entry.{Entry}
 use Rattle.dpl_calls.specs.Parts.{Part}
 use Rattle.dpl_calls.specs.Totals.{shown}
-use Rattle.dpl_calls.specs.Table.{part_of}
+use Rattle.dpl_calls.specs.Table.{entry_part}
 use Rattle.dpl_calls.specs.Places.{body_at}
 use Rattle.dpl_calls.specs.Counted.{own_of, kept_of, kept_total}
 use Rattle.dpl_calls.proofs.Stable.{step_right}
@@ -18,11 +18,11 @@ loop-head-preserved c =
     let long : length c.as_slice-head-items.result.now ≡ length c.args.groups.now.heads = ap (λ (xs : List ℕ). length xs) heads in
     let head : ℕ = get_or c.args.groups.now.heads c.loop-head.head-index 0 in
     let same : get_or c.as_slice-head-items.result.now c.loop-head.head-index 0 ≡ head = ap (λ (xs : List ℕ). get_or xs c.loop-head.head-index 0) heads in
-    let body : map part_of c.body_at.result.now ≡ body_at c.args.table.now head =
-    ap (λ (es : List Entry). map part_of es) (c.body_at.ensures ∙ ap (λ (n : ℕ). get_or (values c.args.table.now.definitions) n []) same) in
+    let body : map entry_part c.body_at.result.now ≡ body_at c.args.table.now head =
+    ap (λ (es : List Entry). map entry_part es) (c.body_at.ensures ∙ ap (λ (n : ℕ). get_or (values c.args.table.now.definitions) n []) same) in
     let value : c.entries_total.result ≡ shown (sum_by (kept_total own (kept_of numbers c.loop-head.totals.items)) (body_at c.args.table.now head)) =
     c.entries_total.ensures.value
-    ∙ (ap (λ (ts : List ℕ). shown (sum_by (kept_total own (kept_of numbers ts)) (map part_of c.body_at.result.now))) c.deref.ensures.value
+    ∙ (ap (λ (ts : List ℕ). shown (sum_by (kept_total own (kept_of numbers ts)) (map entry_part c.body_at.result.now))) c.deref.ensures.value
     ∙ ap (λ (ps : List Part). shown (sum_by (kept_total own (kept_of numbers c.loop-head.totals.items)) ps)) body) in record {
       right = step_right own c.args.table.now c.args.groups.now.labels c.args.groups.now.heads c.requires.groups
           c.requires.loops c.loop-head.head-index c.entries_total.result c.loop-head.totals.items _

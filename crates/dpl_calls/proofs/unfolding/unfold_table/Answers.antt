@@ -1,6 +1,6 @@
 use Rattle.std.proofs.Common.{◌≡◌, suc, ◌-◌, List, map, ap, None, Some, arith, refl, All}
 use Rattle.dpl_calls.specs.declared.entry.Entry.{Entry}
-use Rattle.dpl_calls.specs.Table.{part_of, bodies_of}
+use Rattle.dpl_calls.specs.Table.{entry_part, bodies_of}
 use Rattle.dpl_calls.specs.Kept.{IsPartKept}
 use Rattle.dpl_calls.proofs.Goes.{goes_start, empty_at, figure_at, flat_at, deep_at, deep_smaller_at, frame_near, called_at, drawn_at, child_near}
 use Rattle.dpl_calls.proofs.Turns.{unmoved_stays}
@@ -11,7 +11,7 @@ frames-init c =
     let deep : c.args.depth ≡ suc (c.args.depth - 1) = omega (arith, c.requires.deep) in
     goes_start (bodies_of c.args.table.now) c.args.depth _ _ _ c.new-figures.ensures.items
     (rw c.new-stack.ensures.items at c.in_ok-push.ensures.items) deep
-    (ap (λ (es : List Entry). map part_of es) c.as_slice.ensures.value) unmoved_stays
+    (ap (λ (es : List Entry). map entry_part es) c.as_slice.ensures.value) unmoved_stays
     (record { x = omega arith; y = omega arith }) c.as_slice.ensures.near (c.requires.kept None)
 
 pub frames-preserved-in_default-split_first : goal.frames-preserved-in_default-split_first
@@ -44,14 +44,14 @@ frames-smaller-in_ok-push-in-Called c =
     deep_smaller_at (bodies_of c.args.table.now) _ _ _ _ _ c.in-Some.frame _ _ _ c.in-Some.ensures.items
     c.in-Some-split_first.ensures.cases.0 refl refl c.frames.invariant _ _ _ c.in-Called.at c.in-Called.number
     c.in-Called.moves c.in_ok-push-2.ensures.items c.in_ok-push-in-Called.ensures.items c.in-Called.is deep
-    (ap (λ (es : List Entry). map part_of es) c.body.ensures.value)
+    (ap (λ (es : List Entry). map entry_part es) c.body.ensures.value)
 
 pub frames-preserved-in_ok-push-in-Called : goal.frames-preserved-in_ok-push-in-Called
 frames-preserved-in_ok-push-in-Called c =
     let deep : c.in-Some.frame.below ≡ suc (c.in-Some.frame.below - 1) = omega (arith, c.if-frame-gt0.true) in
-    let parts : map part_of c.body.result.now ≡ bodies_of c.args.table.now (Some c.in-Called.number) =
-    ap (λ (es : List Entry). map part_of es) c.body.ensures.value in
-    let kept : All IsPartKept (map part_of c.body.result.now) = rw parts (c.requires.kept (Some c.in-Called.number)) in
+    let parts : map entry_part c.body.result.now ≡ bodies_of c.args.table.now (Some c.in-Called.number) =
+    ap (λ (es : List Entry). map entry_part es) c.body.ensures.value in
+    let kept : All IsPartKept (map entry_part c.body.result.now) = rw parts (c.requires.kept (Some c.in-Called.number)) in
     let near = frame_near (bodies_of c.args.table.now) _ _ _ _ _ c.in-Some.frame
     (record c.in-Some.frame { rest = c.in-Some-split_first.rest }) _ _ c.in-Some.ensures.items
     c.in-Some-split_first.ensures.cases.0 refl refl c.frames.invariant in

@@ -2,7 +2,7 @@ use Rattle.std.proofs.Common.{◌≡◌, ◌∙◌, ℕ, zero, suc, ◌+◌, Lis
 use Rattle.dpl_lex.specs.Cutting.{commands_of}
 use Rattle.dpl_rules.specs.Rules.{Fault, at_first, rule_fault}
 use Rattle.dpl_cell.specs.Outlines.{Outline}
-use Rattle.dpl_calls.specs.Unfolding.{figures_of, unmoved}
+use Rattle.dpl_calls.specs.Unfolding.{figures_of}
 use Rattle.dpl_calls.specs.Loops.{numbers_from}
 use Rattle.dpl_calls.proofs.Few.{all_fit}
 use Rattle.dpl_calls.proofs.CleanParts.{bodies_kept}
@@ -21,6 +21,6 @@ returns c = λ layer text short clean calm.
     (first_none (rule_fault layer at_first [] 1 (forms_of text) (ending_of text)) _ clean)
     (record { some = omega arith; times = omega arith; over = omega arith })
     (all_fit text (commands_of text).spans short) None in
-    ap (λ (n : ℕ). map drawn (figures_of n (bodies_in layer text) unmoved (bodies_in layer text None)))
+    ap (λ (n : ℕ). map drawn (figures_of n (bodies_in layer text) (λ c. c) (bodies_in layer text None)))
     (one_more (length (numbers_from [] (forms_of text)))) ∙
     all_drawn layer text (length (numbers_from [] (forms_of text))) kept calm
