@@ -24,3 +24,4 @@ pub mod ShiftLemmas
 pub mod FlowLemmas
 pub mod ResultLemmas
 pub mod PassLemmas
+mod ClockLemmas
