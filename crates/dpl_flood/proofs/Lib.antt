@@ -25,3 +25,4 @@ pub mod FlowLemmas
 pub mod ResultLemmas
 pub mod PassLemmas
 mod ClockLemmas
+mod ComeLemmas

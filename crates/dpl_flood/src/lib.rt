@@ -14,11 +14,11 @@
 
 mod arena;
 mod chains;
+mod coming;
 mod event;
 mod held;
 mod laws;
 mod looks;
-mod next;
 mod nodes;
 mod passing;
 mod queue;
@@ -32,6 +32,7 @@ mod ways;
 
 pub use arena::Arena;
 pub use chains::{chains_stay, joins_lead, steps_are};
+pub use coming::next;
 pub use event::{Crossing, Event};
 pub use held::Held;
 pub use laws::{
@@ -39,7 +40,6 @@ pub use laws::{
     time_keeps_seas, trees_move_tops,
 };
 pub use looks::{look_around, look_set, look_way};
-pub use next::next;
 pub use nodes::{Join, Last, Node};
 pub use passing::advance;
 pub use queue::Queue;
