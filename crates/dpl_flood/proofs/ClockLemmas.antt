@@ -33,7 +33,7 @@ value_early d x st k e =
 -- the values that come of it
 pub values_passed : (d : Dual) (x : State) (time : ℕ) (g : Sets) → IsState d x → x.time ≤ time
     → ((i : ℕ) → i < 2 * (sets_of x.family).size → g.value i + drop_of (place_in x.labels.items i) * (time - x.time)
-        ≡ (sets_of x.family).value i + gain (place_in x.labels.items i) * (time - x.time))
+    ≡ (sets_of x.family).value i + gain (place_in x.labels.items i) * (time - x.time))
     → ((i : ℕ) → 2 * (sets_of x.family).size ≤ i → g.value i ≡ (sets_of x.family).value i)
     → ArePassed (sea_of x) time g.value
 values_passed d x time g st later each others = record {

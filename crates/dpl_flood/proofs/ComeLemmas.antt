@@ -68,12 +68,12 @@ way_comes d x w st hw now =
         | inr e ↦ absurd (omega (arith, e, now, ever))
       ],
       elim (pop_way d x.seats (sea_of x) never w st.sea ever hw (All-get_or (λ z. z.length % 2 ≡ 0) d.crosses w _ hw st.ground.even)
-      (All-get_or (λ z. (z.f < d.faces) × (z.g < d.faces)) d.crosses w _ hw st.ground.inside).0
-      (All-get_or (λ z. (z.f < d.faces) × (z.g < d.faces)) d.crosses w _ hw st.ground.inside).1
-      (All-get_or (λ z. get_or d.part z.f 0 ≡ get_or d.part z.g 0) d.crosses w _ hw st.ground.part)) [
-        | inl l ↦ absurd (omega (arith, l, now))
-        | inr r ↦ r
-      ],
+          (All-get_or (λ z. (z.f < d.faces) × (z.g < d.faces)) d.crosses w _ hw st.ground.inside).0
+          (All-get_or (λ z. (z.f < d.faces) × (z.g < d.faces)) d.crosses w _ hw st.ground.inside).1
+          (All-get_or (λ z. get_or d.part z.f 0 ≡ get_or d.part z.g 0) d.crosses w _ hw st.ground.part)) [
+            | inl l ↦ absurd (omega (arith, l, now))
+            | inr r ↦ r
+          ],
     )
 
 -- what comes of a set that is not due later
@@ -267,12 +267,12 @@ come_taken d x w e one st hw is now h1 open_water =
     record {
       over = subst (λ (z : Cross). IsOver d.crosses z.f w z.g) (sym is) (over_first d w hw);
       reached = subst (λ (z : Cross). HasReached d x.seats s z.f z.g (way_at d.crosses w).length) (sym is) (elim c.1 [
-          | inl m ↦ absurd (on_water m.two m.beyond (sym m.at_two ∙ ap (λ (z : Cross). s.point z.g) (sym is) ∙ open_water))
-          | inr r ↦ elim r [
-            | inl a ↦ a
-            | inr a ↦ absurd (on_water h1.member h1.far (sym h1.at ∙ ap (λ (z : Cross). s.point z.f) is ∙ a.takes.open_water))
-          ]
-        ]);
+        | inl m ↦ absurd (on_water m.two m.beyond (sym m.at_two ∙ ap (λ (z : Cross). s.point z.g) (sym is) ∙ open_water))
+        | inr r ↦ elim r [
+          | inl a ↦ a
+          | inr a ↦ absurd (on_water h1.member h1.far (sym h1.at ∙ ap (λ (z : Cross). s.point z.f) is ∙ a.takes.open_water))
+        ]
+      ]);
     }
 
 -- or the first one
@@ -285,12 +285,12 @@ come_back d x w e st hw is now open_water =
     record {
       over = subst (λ (z : Cross). IsOver d.crosses z.g w z.f) (sym is) (over_second d w hw);
       reached = subst (λ (z : Cross). HasReached d x.seats s z.g z.f (way_at d.crosses w).length) (sym is) (elim c.1 [
-          | inl m ↦ absurd (on_water m.one m.far (sym m.at_one ∙ there))
-          | inr r ↦ elim r [
-            | inl a ↦ absurd (on_water a.member a.far (sym a.at ∙ there))
-            | inr a ↦ a
-          ]
-        ]);
+        | inl m ↦ absurd (on_water m.one m.far (sym m.at_one ∙ there))
+        | inr r ↦ elim r [
+          | inl a ↦ absurd (on_water a.member a.far (sym a.at ∙ there))
+          | inr a ↦ a
+        ]
+      ]);
     }
 
 -- a set that has come down to its last face

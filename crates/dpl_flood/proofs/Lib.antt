@@ -26,3 +26,4 @@ pub mod ResultLemmas
 pub mod PassLemmas
 mod ClockLemmas
 mod ComeLemmas
+mod LabelLemmas

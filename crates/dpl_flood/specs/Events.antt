@@ -1,8 +1,9 @@
 -- What comes next of moats, as the first key tells it.
-use Rattle.std.specs.Prelude.{◌≡◌, ℕ, ◌-◌, ◌*◌, ◌<◌, false, if◌then◌else◌, nat_lt, List, [], length, slice_index}
+use Rattle.std.specs.Prelude.{◌≡◌, ◌≢◌, ℕ, ◌-◌, ◌*◌, ◌%◌, ◌<◌, ◌⊎◌, true, false, None, if◌then◌else◌, nat_lt, List, [], length, slice_index}
 use Rattle.dpl_laminar.specs.Storing.{sets_of}
 use Rattle.dpl_dual.specs.declared.crosses.Dual.{Dual}
 use Rattle.dpl_dual.specs.Duals.{way_at}
+use Rattle.dpl_pack.specs.Points.{total_at}
 use Rattle.dpl_flood.specs.declared.event.Crossing.{Crossing}
 use Rattle.dpl_flood.specs.declared.event.Event.{Event}
 use Rattle.dpl_flood.specs.declared.event.Event.TheVariants.{Take, Grow, Meet, Leave, GiveWay}
@@ -59,3 +60,23 @@ due_in d x p =
 abbrev pub IsLater : Dual → State → List ℕ → List ℕ → Type 0
 IsLater d x old new =
     early_keys (length old) (due_in d x) (slice_index new) < early_keys (length old) (due_in d x) (slice_index old)
+
+-- The same moats at the same time, whose tops stand another way in the trees.
+pub record IsRelabelled (x y : State) : Type 0 where
+  pub family : y.family ≡ x.family
+  pub seats : y.seats ≡ x.seats
+  pub held : y.held ≡ x.held
+  pub arena : y.arena ≡ x.arena
+  pub time : y.time ≡ x.time
+  pub inners : y.inners.items ≡ x.inners.items
+  pub labels : length y.labels.items ≡ length x.labels.items
+  pub rests : length y.rests.items ≡ length x.rests.items
+
+-- A free top that does not rest, and another one that is paired with it, may go into a tree: their members' totals have the
+-- parity of the time.
+pub record MayGrow (s : Sea) (inner outer : ℕ) : Type 0 where
+  pub differ : inner ≢ outer
+  pub free : (s.gain inner ≡ 0) × (s.loss inner ≡ 0)
+  pub awake : s.rests inner ≡ false
+  pub tops : (k : ℕ) → (k ≡ inner) ⊎ (k ≡ outer) → (k < 2 * s.sets.size) × ((s.sets.live k ≡ true) × (s.sets.parent k ≡ None))
+  pub pace : (t : ℕ) → t < s.sets.size → (s.sets.top t ≡ inner) ⊎ (s.sets.top t ≡ outer) → total_at s.sets t % 2 ≡ s.time % 2

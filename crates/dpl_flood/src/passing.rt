@@ -29,13 +29,7 @@ fn label_at(labels: &[Label], set: usize) -> Label
 }
 
 /// A set gains or loses what passes of time, as it stands.
-fn pass_one<L: Ledger>(
-    family: &mut Family,
-    label: Label,
-    set: u32,
-    span: u64,
-    steps: &mut Steps<L>,
-)
+fn pass_one<L: Ledger>(family: &mut Family, label: Label, set: u32, span: u64, steps: &mut Steps<L>)
     requires live { place_of label ≢ free → (sets_of family.old).live set ≡ true }
     requires family { IsFamily (sets_of family.old) }
     requires span { span ≤ 2 ^ 50 }
