@@ -1,4 +1,4 @@
-use Rattle.std.proofs.Common.{arith, sym, ap, ◌∙◌}
+use Rattle.std.proofs.Common.{arith}
 use Rattle.dpl_flood.specs.States.{sea_of}
 use Rattle.dpl_dual.specs.Duals.{way_at}
 use Rattle.dpl_flood.proofs.ComeLemmas.{has_met, met_back, over_back, meet_nearer, gain_outer, gain_other, gain_once}

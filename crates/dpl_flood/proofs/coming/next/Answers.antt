@@ -1,4 +1,4 @@
-use Rattle.std.proofs.Common.{arith, ◌≡◌, ◌+◌, ◌-◌, ℕ, ap, length}
+use Rattle.std.proofs.Common.{arith, ◌≡◌, ◌+◌, ◌-◌, ap, length}
 use Rattle.std.specs.Prelude.{slice_index}
 use Rattle.dpl_flood.proofs.coming.next.Goals as goal
 

@@ -1,5 +1,4 @@
-use Rattle.std.proofs.Common.{arith, ◌-◌}
-use Rattle.dpl_tree.specs.Views.{place_in}
+use Rattle.std.proofs.Common.{arith}
 use Rattle.dpl_flood.proofs.ClockLemmas.{value_early}
 use Rattle.dpl_flood.proofs.passing.pass.Goals as goal
 

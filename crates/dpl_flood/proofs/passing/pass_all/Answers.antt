@@ -2,7 +2,7 @@ use Rattle.std.proofs.Common.{arith, ◌+◌, ◌*◌, ℕ, ap, ◌∙◌, inl, 
 use Rattle.std.proofs.lemmas.Bool.{cases_eq}
 use Rattle.dpl_laminar.specs.Families.{Sets}
 use Rattle.dpl_laminar.specs.Storing.{sets_of}
-use Rattle.dpl_tree.specs.steps.Forests.{gain, drop_of}
+use Rattle.dpl_tree.specs.steps.Forests.{drop_of}
 use Rattle.dpl_tree.specs.Views.{place_in}
 use Rattle.dpl_flood.proofs.ClockLemmas.{values_kept}
 use Rattle.dpl_flood.proofs.passing.pass_all.Goals as goal
