@@ -66,6 +66,13 @@ fall_later x k h = elim (cases_Bool ((sea_of x).loss k == 1)) [
   | inr n ↦ omega (arith, cond-false {A = ℕ} ((sea_of x).loss k == 1) (x.time + span_of (sea_of x) (stack_of x.held) k) never n, h)
 ]
 
+-- what is due of a top stays due where its key does
+pub same_top : (s : Sea) (old new : ℕ → ℕ) (j : ℕ) → new j ≡ old j → IsTopDue s old j → IsTopDue s new j
+same_top s old new j e t = record {
+  value = subst (λ z. z - s.time ≤ s.sets.value j) (sym e) t.value;
+  faces = λ g u far p q. subst (λ z. far + (z - s.time) ≤ total_at s.sets u) (sym e) (t.faces g u far p q);
+}
+
 -- The keys stay right where that of a set is set anew.
 pub set_keys : (d : Dual) (x : State) (k : ℕ) (old : List ℕ) → IsState d x → k < 2 * (sets_of x.family).size → AreKeys d x old
     → AreKeys d x (slice_set old (length d.crosses + k) (fall_of (sea_of x) (stack_of x.held) k))
@@ -103,10 +110,4 @@ set_keys d x k old st hk keys =
           | inr ne ↦ omega (arith, get_or-set_other old (n + k) (n + j) told 0 (λ e. ne (omega (arith, e))), keys.now.tops j l)
         ];
       };
-    }
-  where
-    same_top : (s : Sea) (old new : ℕ → ℕ) (j : ℕ) → new j ≡ old j → IsTopDue s old j → IsTopDue s new j
-    same_top s old new j e t = record {
-      value = subst (λ z. z - s.time ≤ s.sets.value j) (sym e) t.value;
-      faces = λ g u far p q. subst (λ z. far + (z - s.time) ≤ total_at s.sets u) (sym e) (t.faces g u far p q);
     }

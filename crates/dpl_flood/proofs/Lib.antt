@@ -24,3 +24,6 @@ pub mod ShiftLemmas
 pub mod FlowLemmas
 pub mod ResultLemmas
 pub mod PassLemmas
+mod ClockLemmas
+mod ComeLemmas
+mod LabelLemmas

@@ -19,7 +19,7 @@ use Rattle.dpl_flood.proofs.ToldLemmas.{told_is, told_later}
 use Rattle.dpl_flood.proofs.ShoreLemmas.{cases_point}
 
 -- something comes on a way, or it is told that never anything does
-told_or : (d : Dual) (s : Sea) (never w : ℕ) → IsComing d s w ⊎ (due_of d s never w ≡ never)
+pub told_or : (d : Dual) (s : Sea) (never w : ℕ) → IsComing d s w ⊎ (due_of d s never w ≡ never)
 told_or d s never w =
     let i = place_of s.sets (s.point (way_at d.crosses w).f) in
     let j = place_of s.sets (s.point (way_at d.crosses w).g) in

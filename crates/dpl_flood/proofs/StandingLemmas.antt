@@ -47,7 +47,7 @@ back_parts i j b lose win now room ne h =
     ∙ ap rest (cond-false {A = ℕ} (win - lose == 2) (room / 2) room (ne_eqb (win - lose) 2 (λ e. omega (arith, e, h))))
 
 -- the top of a face that stands so
-top_is : (s : Sea) (f : ℕ) (x : Standing) → IsHeldAs s f x → place_of s.sets (s.point f) ≡ x.top
+pub top_is : (s : Sea) (f : ℕ) (x : Standing) → IsHeldAs s f x → place_of s.sets (s.point f) ≡ x.top
 top_is s f x h = ap (place_of s.sets) h.at ∙ sym h.is.top
 
 -- A way between two held faces.

@@ -10,3 +10,4 @@ pub mod Holdings
 pub mod Standings
 pub mod States
 pub mod StateLaws
+pub mod Events

@@ -14,11 +14,15 @@
 
 mod arena;
 mod chains;
+mod coming;
+mod event;
 mod held;
 mod laws;
 mod looks;
 mod nodes;
+mod passing;
 mod queue;
+mod relabelling;
 mod searching;
 mod shores;
 mod standing;
@@ -29,14 +33,18 @@ mod ways;
 
 pub use arena::Arena;
 pub use chains::{chains_stay, joins_lead, steps_are};
+pub use coming::next;
+pub use event::{Crossing, Event};
 pub use held::Held;
 pub use laws::{
     events_keep_seas, keys_tell_events, names_keep_time, stacks_tell_falls, states_keep_keys,
     time_keeps_seas, trees_move_tops,
 };
-pub use looks::{look_around, look_set};
+pub use looks::{look_around, look_set, look_way};
 pub use nodes::{Join, Last, Node};
+pub use passing::advance;
 pub use queue::Queue;
+pub use relabelling::{cease, grow, thaw};
 pub use shores::{leave, take};
 pub use standing::{Standing, due};
 pub use state::State;

@@ -4,7 +4,8 @@ ghost use Rattle.std.specs.Prelude.{◌≡◌, ◌+◌, ◌*◌, ◌<◌, ◌≤
 ghost use Rattle.dpl_laminar.specs.Storing.{sets_of};
 ghost use Rattle.dpl_flood.specs.Dues.{AreLooked};
 ghost use Rattle.dpl_flood.specs.Holdings.{stack_of};
-ghost use Rattle.dpl_flood.specs.Seas.{sides_of, tide_of};
+ghost use Rattle.dpl_flood.specs.Queues.{never};
+ghost use Rattle.dpl_flood.specs.Seas.{sides_of, tide_of, due_of};
 ghost use Rattle.dpl_flood.specs.States.{IsState, sea_of, fall_of, AreKeyed, AreKeyedAround};
 ghost use Rattle.dpl_flood.specs.Steps.{step_rows};
 
@@ -38,6 +39,16 @@ pub fn look_around(state: &State, dual: &Dual, steps: &Grouped<Step>, queue: &mu
         state.now.time (λ g. g == face) (slice_index queue.old) (slice_index queue.new) }
 {
     look_over(state, dual, steps.row(face as usize), queue);
+}
+
+/// Sets the key of a way anew.
+pub fn look_way(state: &State, dual: &Dual, queue: &mut Queue, way: u32)
+    requires state { IsState dual.now state.now }
+    requires way { way < length dual.now.crosses }
+    requires places { length dual.now.crosses ≤ length queue.old }
+    ensures { queue.new ≡ slice_set queue.old way (due_of dual.now (sea_of state.now) never way) }
+{
+    queue.set(way as usize, state.look(dual, way));
 }
 
 /// Sets the key of a set anew.

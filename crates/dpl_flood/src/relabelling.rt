@@ -1,0 +1,62 @@
+//! Tops begin to grow or to fall, stand still and rest. No moat moves.
+
+ghost use Rattle.std.specs.Prelude.{◌≡◌, ℕ, ◌*◌, ◌<◌, false, List, length, slice_index_or};
+ghost use Rattle.dpl_laminar.specs.Storing.{sets_of};
+ghost use Rattle.dpl_dual.specs.declared.crosses.Dual.{Dual};
+ghost use Rattle.dpl_tree.specs.Views.{place_in};
+ghost use Rattle.dpl_flood.specs.Events.{IsRelabelled, MayGrow};
+ghost use Rattle.dpl_flood.specs.Rates.{gains_in, losses_in};
+ghost use Rattle.dpl_flood.specs.Seas.{Grows, Ceases};
+ghost use Rattle.dpl_flood.specs.States.{IsState, AreKeys, sea_of};
+
+use crate::state::State;
+use dpl_tree::Label;
+
+/// A free top that was met falls from now on, and the one that is paired with it grows.
+pub fn grow(state: &mut State, inner: u32, outer: u32)
+    requires state { (d : Dual) × IsState d state.old }
+    requires free { MayGrow (sea_of state.old) inner outer }
+    ensures grows { Grows (sea_of state.old) inner outer (gains_in (place_in state.new.labels.items))
+        (losses_in (place_in state.new.labels.items)) (λ k. slice_index_or state.new.rests.items k false) }
+    ensures rest { IsRelabelled state.old state.new }
+    ensures state { (d : Dual) → IsState d state.old → IsState d state.new }
+{
+    state.labels[inner as usize] = Label::Inner;
+    state.labels[outer as usize] = Label::Outer;
+    state.rests[outer as usize] = false;
+}
+
+/// A top of a tree that ends stands still, and rests. All keys serve on.
+pub fn cease(state: &mut State, set: u32)
+    requires state { (d : Dual) × IsState d state.old }
+    requires set { set < 2 * (sets_of state.old.family).size }
+    ensures ceases { Ceases (sea_of state.old) (gains_in (place_in state.new.labels.items))
+        (losses_in (place_in state.new.labels.items)) (λ k. slice_index_or state.new.rests.items k false) }
+    ensures rest { IsRelabelled state.old state.new }
+    ensures state { (d : Dual) → IsState d state.old → IsState d state.new }
+    ensures keys { (d : Dual) (keys : List ℕ) → IsState d state.old → AreKeys d state.old keys → AreKeys d state.new keys }
+{
+    state.labels[set as usize] = Label::Free;
+    state.rests[set as usize] = true;
+}
+
+/// No set rests any more.
+fn wake(rests: &mut [bool])
+    ensures awake { (k : ℕ) → slice_index_or rests.new k false ≡ false }
+    ensures count { length rests.new ≡ length rests.old }
+{
+    for i in 0..rests.len() {
+        rests[i] = false;
+    }
+}
+
+/// What rests may be entered again.
+pub fn thaw(state: &mut State)
+    requires state { (d : Dual) × IsState d state.old }
+    ensures labels { state.new.labels ≡ state.old.labels }
+    ensures awake { (k : ℕ) → slice_index_or state.new.rests.items k false ≡ false }
+    ensures rest { IsRelabelled state.old state.new }
+    ensures state { (d : Dual) → IsState d state.old → IsState d state.new }
+{
+    wake(&mut state.rests);
+}
