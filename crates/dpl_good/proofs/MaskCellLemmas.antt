@@ -29,6 +29,7 @@ use Rattle.dpl_cuts.proofs.ZoneLemmas.{good_zones, hold_layer}
 use Rattle.dpl_links.specs.Links.{piece_of}
 use Rattle.dpl_links.specs.Nets.{Tie, tie_of, bond_tie, stitch_tie, clash_tie, IsNet}
 use Rattle.dpl_links.specs.Spacing.{AreTooClose, IsClashOf, AreAllClashes}
+use Rattle.dpl_links.proofs.NetLemmas.{net_ties}
 use Rattle.dpl_links.proofs.LawLemmas.{net_clashes, turned_gap}
 use Rattle.dpl_boxes.specs.Drawings.{is_in_boxes, DrawsMasks}
 use Rattle.dpl_report.specs.declared.marks.Broken.{Broken}
@@ -552,7 +553,7 @@ masks_of_layer o cells tiles f net r ranges v good n c =
     let w = wide o.overlap ranges.some_overlap in
     let bonds = pairs_agree r.head.colours net.graph.edges n.bonds
     (map (stitch_tie o.weights.stitch) f.cuts ++ map (clash_tie o.weights) n.links)
-    (n.edges ∙ append_assoc (map bond_tie n.bonds) (map (stitch_tie o.weights.stitch) f.cuts)
+    (net_ties f o.weights (2 * o.space) net n ∙ append_assoc (map bond_tie n.bonds) (map (stitch_tie o.weights.stitch) f.cuts)
     (map (clash_tie o.weights) n.links)) t.colouring.bonds in
     let k : IsKnown o tiles f net r = record {
       keep = c.keep;
@@ -563,7 +564,7 @@ masks_of_layer o cells tiles f net r ranges v good n c =
       apart = parts_apart c.keep (2 * o.space) (2 * o.overlap) tiles c.label (map corners_of f.rects) f.tile f.shape w c.apart a.parts;
       zones = good_zones c.keep (2 * o.space) (2 * o.overlap) tiles c.label f w (even o.overlap) a;
       cuts = a.cuts;
-      take = net_takes o.weights n.bonds f.cuts n.links net.graph.edges n.edges;
+      take = net_takes o.weights n.bonds f.cuts n.links net.graph.edges (net_ties f o.weights (2 * o.space) net n);
       clashes = net_clashes c.keep (2 * o.space) (2 * o.overlap) tiles c.label c.count f o.weights net w c.shapes a n;
       ends = subst (λ (m : ℕ). All (λ (e : Edge). e.b < m) net.graph.edges) n.nodes net.graph.inside;
       alike = λ i j l m e. let s = (n.are_pieces.same i j l m).0 e in chain_agrees r.head.colours n.bonds bonds i s.chain j s.is;
