@@ -13,7 +13,7 @@ use Rattle.dpl_core.specs.Reports.{CostsLeast}
 -- the report has the colours, the cost, the edges set aside and the bound of a solution
 pub least_of : (net : Net) (colours : List Bool) (cost : ℕ) (aside : List ℕ) (excess' : ℕ) (cs : List Cycle) (bound : ℕ)
     → IsSolution net colours cost aside excess' cs bound → (r : PlainReport) → r.head.colours ≡ colours
-    → r.head.cost ≡ cost → r.head.bound ≡ bound → r.lists.aside ≡ aside → CostsLeast net r
+    → r.head.cost ≡ cost → r.head.bound ≡ bound → r.lists.aside ≡ aside → CostsLeast net r.head r.lists.aside
 least_of net colours cost aside excess' cs bound s r ec et eb ea = record {
   half = λ others k. let h = half_least net colours others cost aside excess' cs bound s k in omega arith;
   kept = λ others k. subst (λ z. kept_cost net z ≤ kept_cost net others) (sym ec) (kept_least net colours others cost aside excess' cs bound s k);

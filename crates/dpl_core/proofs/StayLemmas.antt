@@ -45,7 +45,7 @@ still_tight net old new r b t = record {
 
 -- what the report's bound and cost say of all colourings stays true with colours that break the same edges
 pub still_least : (net : Net) (old new : Report) → IsRestOf old new → BreakTheSame net old.colours new.colours
-    → CostsLeast net (plain_report old) → CostsLeast net (plain_report new)
+    → CostsLeast net (plain_report old).head old.aside → CostsLeast net (plain_report new).head new.aside
 still_least net old new r b t = record {
   half = λ others k. let h = t.half others k in let e = r.bound in omega arith;
   kept = λ others k. let h = t.kept others k in let e = kept_same net old.colours new.colours b in omega arith;

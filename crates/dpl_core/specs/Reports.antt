@@ -7,7 +7,7 @@ use Rattle.dpl_sign.specs.Excess.{excess, all_edges, is_aside}
 use Rattle.dpl_sign.specs.Walks.{edge_at}
 use Rattle.dpl_cuts.specs.declared.types.Fragments.{Fragments}
 use Rattle.dpl_options.specs.Options.{PlainOptions}
-use Rattle.dpl_report.specs.Plain.{PlainReport}
+use Rattle.dpl_report.specs.Plain.{PlainHead, PlainReport}
 use Rattle.dpl_report.specs.ReportLines.{report_text}
 use Rattle.dpl_report.specs.Valid.{IsReport}
 use Rattle.dpl_good.specs.Facts.{AreNineFacts}
@@ -22,16 +22,16 @@ use Rattle.dpl_balance.specs.Balance.{AreBalanced}
 use Rattle.dpl_refine.specs.Components.{is_around}
 use Rattle.dpl_refine.specs.Refined.{IsRefined}
 
--- Every colouring of the net costs at least half the bound, none breaks kept edges of a smaller
--- weight, and where the drawing is plane, and so nothing is set aside, none costs less.
-pub record CostsLeast (net : Net) (r : PlainReport) : Type 0 where
+-- Of a report with this head that sets these edges aside: every colouring of the net costs at least half the bound, none
+-- breaks kept edges of a smaller weight, and where the drawing is plane, and so nothing is set aside, none costs less.
+pub record CostsLeast (net : Net) (head : PlainHead) (aside : List ℕ) : Type 0 where
   pub half : (colours : List Bool) → IsColouring net.graph colours
-      → r.head.bound ≤ 2 * cost_of net.graph colours
+      → head.bound ≤ 2 * cost_of net.graph colours
   pub kept : (colours : List Bool) → IsColouring net.graph colours
-      → kept_cost net r.head.colours ≤ kept_cost net colours
-  pub plane : (r.lists.aside ≡ []) ↔ (excess net all_edges ≡ 0)
+      → kept_cost net head.colours ≤ kept_cost net colours
+  pub plane : (aside ≡ []) ↔ (excess net all_edges ≡ 0)
   pub all : excess net all_edges ≡ 0 → (colours : List Bool) → IsColouring net.graph colours
-      → r.head.cost ≤ cost_of net.graph colours
+      → head.cost ≤ cost_of net.graph colours
 
 -- The bound is twice the weight of the broken kept edges, and the cost exceeds half of it by that
 -- of the broken edges set aside. The cycles pass kept edges, each no edge twice.
@@ -51,7 +51,7 @@ pub record IsReportOfCells (o : PlainOptions) (r : PlainReport) (cells kept : Ce
   pub layer : IsLayer o cells kept fragments net
   pub facts : AreNineFacts o fragments net (report_text r) r
   pub tight : IsTight net r
-  pub least : CostsLeast net r
+  pub least : CostsLeast net r.head r.lists.aside
   pub masks : AreMasksOf o cells layer.layer.fragments.tiles fragments net r
 
 -- such a report, whose two masks differ in area by no more than they differ within one component
@@ -100,7 +100,7 @@ pub record IsRefinedOfCells (o : PlainOptions) (r : PlainReport) (cells kept : C
   pub tight : PlainReport
   pub tight_facts : AreNineFacts o fragments net (report_text tight) tight
   pub is_tight : IsTight net tight
-  pub least : CostsLeast net tight
+  pub least : CostsLeast net tight.head tight.lists.aside
   pub refined : IsRefined net.graph tight.head.colours r.head.colours
   pub untouched : IsUntouched net tight.head.colours r.head.colours
   pub bound : tight.head.bound ≤ r.head.bound
@@ -124,7 +124,7 @@ pub record IsReportOfNet (o : PlainOptions) (f : Fragments) (net : Net) (r : Pla
   pub valid : IsReport r
   pub good : refusal_of o f net r ≡ None
   pub tight : IsTight net r
-  pub least : CostsLeast net r
+  pub least : CostsLeast net r.head r.lists.aside
 
 -- The report says the truth with colours that were refined from those of a tight report, and are its colours where nothing
 -- of a component is set aside. Its bound is at least that

@@ -31,7 +31,7 @@ pub fn report_of(
     requires one { length solution.colours.items ≡ length fragments.now.rects }
     ensures truth { IfOk result (λ r. SaysTrue options.now fragments.now net.now (plain_report r)) }
     ensures tight { IfOk result (λ r. IsTight net.now (plain_report r)) }
-    ensures least { IfOk result (λ r. CostsLeast net.now (plain_report r)) }
+    ensures least { IfOk result (λ r. CostsLeast net.now (plain_report r).head r.aside) }
     ensures colours { IfOk result (λ r. r.colours ≡ solution.colours.items) }
 {
     let params = params_of(options);

@@ -50,7 +50,7 @@ pub fn report_is_of_the_layer(options: &Options, layer: &Layer, report: &Report)
     requires truth { SaysTrue options.now layer.now.fragments layer.now.net
         (plain_report report.now) }
     requires tight { IsTight layer.now.net (plain_report report.now) }
-    requires least { CostsLeast layer.now.net (plain_report report.now) }
+    requires least { CostsLeast layer.now.net (plain_report report.now).head report.now.aside }
     ensures report { IsReportOfNet options.now layer.now.fragments layer.now.net
         (plain_report report.now) }
     ensures masks { HaveMasks options.now layer.now.fragments layer.now.net

@@ -1,5 +1,5 @@
 -- The fragments and the edges of a layer stand in order.
-use Rattle.std.proofs.Common.{arith, ◌≡◌, inl, inr, ◌<◌, ℕ, zero, suc, true, List, [], ◌∷◌, ◌++◌, length, map, refl, sym, subst, slice_index_or}
+use Rattle.std.proofs.Common.{arith, ◌≡◌, inl, inr, ◌<◌, ◌*◌, ℕ, zero, suc, true, List, [], ◌∷◌, ◌++◌, length, map, refl, sym, subst, slice_index_or}
 use Rattle.std.specs.Prelude.{All, AllPairs}
 use Rattle.std.proofs.lemmas.List.Elements.{All-append, All-map}
 use Rattle.std.proofs.lemmas.List.Kept.{AllPairs-cons}
@@ -12,6 +12,7 @@ use Rattle.dpl_sign.specs.declared.nets.Net.{Net}
 use Rattle.dpl_options.specs.Options.{PlainOptions, PlainWeights}
 use Rattle.dpl_links.specs.declared.linking.Link.{Link}
 use Rattle.dpl_links.specs.Nets.{Tie, tie_of, bond_tie, stitch_tie, clash_tie, ties_of}
+use Rattle.dpl_links.proofs.NetLemmas.{net_ties}
 use Rattle.dpl_layer.specs.Drawings.{Cells}
 use Rattle.dpl_layer.specs.Layers.{IsLayerOf}
 use Rattle.dpl_stay.specs.declared.finding.Key.{Key}
@@ -77,7 +78,8 @@ rects_in_order o cells kept f n h = all_pairs_of_map corners_of IsBefore f.rects
 pub edges_in_order : (o : PlainOptions) (cells kept : Cells) (f : Fragments) (n : Net) → IsLayerOf o cells kept f n → AreEdgesInOrder n.graph.edges
 unfolding IsTieBefore key_tie
 edges_in_order o cells kept f n h =
-    all_pairs_of_map tie_of IsTieBefore n.graph.edges (subst (AllPairs IsTieBefore) (sym h.net.edges)
+    all_pairs_of_map tie_of IsTieBefore n.graph.edges (subst (AllPairs IsTieBefore)
+    (sym (net_ties f o.weights (2 * o.space) n h.net))
     (ties_in_order o.weights h.net.bonds f.cuts h.net.links h.net.are_bonds.ordered h.fragments.are_fragments.cuts.ordered h.net.are_clashes.ordered))
 
 pub nodes_are : (o : PlainOptions) (cells kept : Cells) (f : Fragments) (n : Net) → IsLayerOf o cells kept f n → n.graph.nodes ≡ length f.rects

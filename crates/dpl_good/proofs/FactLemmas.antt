@@ -17,6 +17,7 @@ use Rattle.dpl_cuts.specs.declared.types.Cut.{Cut}
 use Rattle.dpl_cuts.specs.declared.types.Fragments.{Fragments}
 use Rattle.dpl_cuts.specs.Fragments.{AreFragments}
 use Rattle.dpl_links.specs.Nets.{IsNet}
+use Rattle.dpl_links.proofs.NetLemmas.{net_ties}
 use Rattle.dpl_report.specs.declared.marks.Broken.{Broken}
 use Rattle.dpl_options.specs.Options.{PlainOptions, AreOptions}
 use Rattle.dpl_report.specs.declared.params.Counts.{Counts}
@@ -265,5 +266,6 @@ pub good_exactly : (o : PlainOptions) (f : Fragments) (net : Net) (keep tiles : 
     → AreFragments keep (2 * o.space) (2 * o.overlap) tiles label f
     → IsGood o f net text ↔ ((r : PlainReport) × AreNineFacts o f net text r)
 good_exactly o f net keep tiles label text ranges n a =
-    let take = net_takes o.weights n.bonds f.cuts n.links net.graph.edges n.edges in
+    let take = net_takes o.weights n.bonds f.cuts n.links net.graph.edges
+    (net_ties f o.weights (2 * o.space) net n) in
     (good_has_facts o f net text ranges take, λ h. facts_are_good o f net text h.0 take a.cuts.ordered h.1)

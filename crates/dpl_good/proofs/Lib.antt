@@ -9,6 +9,7 @@ pub mod TrueLemmas
 pub mod BrokenLemmas
 pub mod MaskCellLemmas
 pub mod SameMaskLemmas
+pub mod LineLemmas
 pub mod FactLemmas
 pub mod ConditionLaws
 pub mod FirstWrong

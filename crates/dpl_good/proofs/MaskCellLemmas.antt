@@ -29,6 +29,7 @@ use Rattle.dpl_cuts.proofs.ZoneLemmas.{good_zones, hold_layer}
 use Rattle.dpl_links.specs.Links.{piece_of}
 use Rattle.dpl_links.specs.Nets.{Tie, tie_of, bond_tie, stitch_tie, clash_tie, IsNet}
 use Rattle.dpl_links.specs.Spacing.{AreTooClose, IsClashOf, AreAllClashes}
+use Rattle.dpl_links.proofs.NetLemmas.{net_ties}
 use Rattle.dpl_links.proofs.LawLemmas.{net_clashes, turned_gap}
 use Rattle.dpl_boxes.specs.Drawings.{is_in_boxes, DrawsMasks}
 use Rattle.dpl_report.specs.declared.marks.Broken.{Broken}
@@ -40,8 +41,8 @@ use Rattle.dpl_good.specs.Verdicts.{refusal_of}
 use Rattle.dpl_good.specs.Truths.{SaysTrue}
 use Rattle.dpl_good.specs.Conditions.{cuts_from}
 use Rattle.dpl_good.specs.MaskRects.{where_same, fragments_on, is_zone, zones_of, mask_of}
-use Rattle.dpl_good.specs.MaskCells.{AreCutFrom, HoldTogether, OverlapInZones, ShowsZone, IsBrokenEdge, NamesBroken}
-use Rattle.dpl_good.specs.MaskCells.{NameAllBroken, AreOnOneMask, HoldsCell, JoinsPieces, AreToldClose, TellsClose}
+use Rattle.dpl_good.specs.MaskCells.{AreCutFrom, HoldTogether, OverlapInZones, IsBrokenEdge, NamesBroken}
+use Rattle.dpl_good.specs.MaskCells.{NameAllBroken, AreOnOneMask, HoldsCell, JoinsPieces, AreToldClose}
 use Rattle.dpl_good.specs.MaskCells.{AreMasksOf, AreOnTheirMasks}
 use Rattle.dpl_good.proofs.TrueLemmas.{agree_none, AgreesAt, good_is_true}
 use Rattle.dpl_good.proofs.BrokenLemmas.{TakeCuts, net_takes, zones_are, zones_hold, fit_rises, first_tie, clashes_are_named, stitches_are_named}
@@ -367,17 +368,13 @@ masks_overlap o tiles f net r k x y =
     (zone_is_on o tiles f net r true x y k z))
 
 -- each cut line shows the zone of its cut
-show_zones : (o : PlainOptions) (tiles : List Corners) (f : Fragments) (net : Net) (r : PlainReport)
-    → IsKnown o tiles f net r → All (ShowsZone (2 * o.overlap) tiles f) r.lists.cuts
-show_zones o tiles f net r k =
-    let P : ℕ → ℕ → Corners → Type 0 = λ a b c. ShowsZone (2 * o.overlap) tiles f (record { at = record { edge = 0; a = a; b = b }; corners = c }) in
-    let each : All (λ (c : Cut). P c.a c.b (corners_of c.zone)) f.cuts =
-    λ i c l. record { cut = k.cuts.each i c l; from = (k.zones i c l).from; part = (k.zones i c l).part } in
+lines_show : (o : PlainOptions) (tiles : List Corners) (f : Fragments) (net : Net) (r : PlainReport) → IsKnown o tiles f net r
+    → All (λ (z : PlainZone). IsCut (2 * o.overlap) tiles (map corners_of f.rects) f.tile z.at.a z.at.b z.corners) r.lists.cuts
+lines_show o tiles f net r k =
+    let P : ℕ → ℕ → Corners → Type 0 = IsCut (2 * o.overlap) tiles (map corners_of f.rects) f.tile in
     let lines : All (λ (z : PlainZone). P z.at.a z.at.b z.corners) (cuts_from r.head.colours 0 net.graph.edges f.cuts) =
-    zones_hold P r.head.colours 0 net.graph.edges f.cuts k.take each in
-    let moved : All (ShowsZone (2 * o.overlap) tiles f) (cuts_from r.head.colours 0 net.graph.edges f.cuts) =
-    λ i z l. let s = lines i z l in record { cut = s.cut; from = s.from; part = s.part } in
-    subst (All (ShowsZone (2 * o.overlap) tiles f)) (sym k.truth.cuts) moved
+    zones_hold P r.head.colours 0 net.graph.edges f.cuts k.take k.cuts.each in
+    subst (All (λ (z : PlainZone). P z.at.a z.at.b z.corners)) (sym k.truth.cuts) lines
 
 -- ---- what is too close
 
@@ -463,47 +460,6 @@ masks_told o tiles f net r k named x y x' y' c m = elim m [
   | inr p ↦ told_on o tiles f net r true x y x' y' k named c (true_is _ p.0) (true_is _ p.1)
 ]
 
-one_mask : (o : PlainOptions) (tiles : List Corners) (f : Fragments) (net : Net) (r : PlainReport) (on_b : Bool) (x y x' y' : ℤ)
-    → IsKnown o tiles f net r → IsOnFragment f.rects r.head.colours on_b x y
-    → IsOnFragment f.rects r.head.colours on_b x' y' → AreOnOneMask r x y x' y'
-unfolding mask_boxes
-one_mask o tiles f net r false x y x' y' k g h = inl (
-  is_true (fragment_is_on o tiles f net r false x y k g),
-  is_true (fragment_is_on o tiles f net r false x' y' k h),
-)
-one_mask o tiles f net r true x y x' y' k g h = inr (
-  is_true (fragment_is_on o tiles f net r true x y k g),
-  is_true (fragment_is_on o tiles f net r true x' y' k h),
-)
-
-line_tells : (o : PlainOptions) (tiles : List Corners) (f : Fragments) (net : Net) (r : PlainReport) (b : Broken)
-    → IsKnown o tiles f net r → NamesBroken net.graph r.head.colours Clash b
-    → TellsClose (layer_of tiles) (2 * o.space) f r b
-line_tells o tiles f net r b k names =
-    let e = edge_at net.graph b.edge in
-    let w = names.edge.within in
-    let t = k.clashes.each b.edge no_edge w names.edge.is in
-    let far : e.b < length f.rects = k.ends b.edge no_edge w in
-    let near : e.a < length f.rects = let h = e.ordered in omega arith in
-    let broken : agree (colour_of r.head.colours e.a) (colour_of r.head.colours e.b) ≡ true =
-    sym (ap (λ (kind : Kind). is_broken kind (colour_of r.head.colours e.a) (colour_of r.head.colours e.b))
-    names.edge.is) ∙ names.edge.broken in
-    let same = agree_none (colour_of r.head.colours e.a) (colour_of r.head.colours e.b) broken in
-    let g : IsOnFragment f.rects r.head.colours (colour_of r.head.colours e.b) t.x t.y = record { i = e.a; within = near; own = same; holds = t.first } in
-    let h : IsOnFragment f.rects r.head.colours (colour_of r.head.colours e.b) t.x' t.y' = record { i = e.b; within = far; own = refl; holds = t.second } in
-    let first : HoldsCell f e.a t.x t.y = record { within = near; holds = t.first } in
-    let second : HoldsCell f e.b t.x' t.y' = record { within = far; holds = t.second } in
-    record {
-      x = t.x;
-      y = t.y;
-      x' = t.x';
-      y' = t.y';
-      first = subst (λ (n : ℕ). HoldsCell f n t.x t.y) (sym names.first) first;
-      second = subst (λ (n : ℕ). HoldsCell f n t.x' t.y') (sym names.second) second;
-      close = t.close;
-      mask = one_mask o tiles f net r (colour_of r.head.colours e.b) t.x t.y t.x' t.y' k g h;
-    }
-
 own_masks : (o : PlainOptions) (tiles : List Corners) (f : Fragments) (net : Net) (r : PlainReport)
     → IsKnown o tiles f net r → AreOnTheirMasks f r
 unfolding mask_boxes
@@ -527,12 +483,10 @@ known_masks o tiles f net r k =
       own = own_masks o tiles f net r k;
       together = masks_together o tiles f net r k;
       overlap = masks_overlap o tiles f net r k;
-      zones = show_zones o tiles f net r k;
+      zones = lines_show o tiles f net r k;
       stitches = stitches_are_named net.graph r.head.colours f.cuts r.lists.cuts k.take k.truth.cuts (cut_numbers r k.valid);
       clashes = named;
       told = masks_told o tiles f net r k named;
-      close = All-weaker (NamesBroken net.graph r.head.colours Clash) (TellsClose (layer_of tiles) (2 * o.space) f r)
-          (λ b n. line_tells o tiles f net r b k n) r.lists.clashes named.each;
       drawn = subst (λ (n : List ℕ). DrawsMasks n r.on_a r.on_b (report_text r)) k.truth.params.layer (report_is_drawn r k.valid);
     }
 
@@ -552,7 +506,7 @@ masks_of_layer o cells tiles f net r ranges v good n c =
     let w = wide o.overlap ranges.some_overlap in
     let bonds = pairs_agree r.head.colours net.graph.edges n.bonds
     (map (stitch_tie o.weights.stitch) f.cuts ++ map (clash_tie o.weights) n.links)
-    (n.edges ∙ append_assoc (map bond_tie n.bonds) (map (stitch_tie o.weights.stitch) f.cuts)
+    (net_ties f o.weights (2 * o.space) net n ∙ append_assoc (map bond_tie n.bonds) (map (stitch_tie o.weights.stitch) f.cuts)
     (map (clash_tie o.weights) n.links)) t.colouring.bonds in
     let k : IsKnown o tiles f net r = record {
       keep = c.keep;
@@ -563,7 +517,7 @@ masks_of_layer o cells tiles f net r ranges v good n c =
       apart = parts_apart c.keep (2 * o.space) (2 * o.overlap) tiles c.label (map corners_of f.rects) f.tile f.shape w c.apart a.parts;
       zones = good_zones c.keep (2 * o.space) (2 * o.overlap) tiles c.label f w (even o.overlap) a;
       cuts = a.cuts;
-      take = net_takes o.weights n.bonds f.cuts n.links net.graph.edges n.edges;
+      take = net_takes o.weights n.bonds f.cuts n.links net.graph.edges (net_ties f o.weights (2 * o.space) net n);
       clashes = net_clashes c.keep (2 * o.space) (2 * o.overlap) tiles c.label c.count f o.weights net w c.shapes a n;
       ends = subst (λ (m : ℕ). All (λ (e : Edge). e.b < m) net.graph.edges) n.nodes net.graph.inside;
       alike = λ i j l m e. let s = (n.are_pieces.same i j l m).0 e in chain_agrees r.head.colours n.bonds bonds i s.chain j s.is;

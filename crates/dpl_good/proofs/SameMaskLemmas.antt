@@ -10,6 +10,7 @@ use Rattle.dpl_cell.specs.Layers.{is_in_box}
 use Rattle.dpl_boxes.specs.Drawings.{is_in_boxes}
 use Rattle.dpl_cuts.specs.declared.types.Fragments.{Fragments}
 use Rattle.dpl_cuts.specs.Cuts.{zone_at}
+use Rattle.dpl_cuts.specs.Fragments.{IsCut}
 use Rattle.dpl_cuts.specs.Positions.{rect_at, end_of}
 use Rattle.dpl_cuts.specs.Zones.{HoldLayer}
 use Rattle.dpl_cuts.proofs.ZoneLemmas.{hold_layer}
@@ -20,7 +21,7 @@ use Rattle.dpl_sign.specs.Walks.{edge_at}
 use Rattle.dpl_sign.specs.Colourings.{colour_of}
 use Rattle.dpl_options.specs.Options.{PlainOptions, AreOptions}
 use Rattle.dpl_report.specs.Plain.{PlainZone, PlainReport}
-use Rattle.dpl_good.specs.MaskCells.{AreCutFrom, AreMasksOf, DrawSameMasks, HoldsCell, IsBrokenEdge, NamesBroken, ShowsZone}
+use Rattle.dpl_good.specs.MaskCells.{AreCutFrom, AreMasksOf, DrawSameMasks, HoldsCell, IsBrokenEdge, NamesBroken}
 use Rattle.dpl_good.proofs.MaskCellLemmas.{cell_on_fragment, wide}
 
 -- ---- the zones of the cut lines
@@ -37,15 +38,19 @@ held_by_line : (zones : List PlainZone) (x y : ℤ) → Any (λ (z : PlainZone).
 held_by_line zones x y h = list_any-map (λ b. is_in_box b x y) (λ (z : PlainZone). z.corners) zones
     ∙ list_any-from_Any (λ (z : PlainZone). is_in_box z.corners x y) zones h
 
+-- the line shows the zone of the cut between its two fragments
+abbrev ShowsCutAt : ℕ → List Corners → Fragments → PlainZone → Type 0
+ShowsCutAt over tiles f z = IsCut over tiles (map corners_of f.rects) f.tile z.at.a z.at.b z.corners
+
 -- two lines at one edge show one zone
 same_zone : (over : ℕ) (tiles : List Corners) (f : Fragments) (g : Signed) (one other : List Bool) (y z : PlainZone)
-    → ShowsZone over tiles f y → ShowsZone over tiles f z → NamesBroken g one Stitch y.at → NamesBroken g other Stitch z.at
+    → ShowsCutAt over tiles f y → ShowsCutAt over tiles f z → NamesBroken g one Stitch y.at → NamesBroken g other Stitch z.at
     → y.at.edge ≡ z.at.edge → y.corners ≡ z.corners
 same_zone over tiles f g one other y z shown again named renamed e =
     let a : y.at.a ≡ z.at.a = named.first ∙ ap (λ n. (edge_at g n).a) e ∙ sym renamed.first in
     let zone : ℕ → Corners = λ n. zone_at over (rect_at tiles (slice_index_or f.tile n 0))
     (end_of (rect_at tiles (slice_index_or f.tile n 0)) (rect_at (map corners_of f.rects) n)) in
-    shown.cut.overlap ∙ ap zone a ∙ sym again.cut.overlap
+    shown.overlap ∙ ap zone a ∙ sym again.overlap
 
 -- a cell in a zone of the one report lies in one of the other
 zone_of_both : (o : PlainOptions) (cells : ℤ → ℤ → Bool) (tiles : List Corners) (f : Fragments) (net : Net) (r s : PlainReport)
@@ -56,13 +61,13 @@ zone_of_both o cells tiles f net r s m n same x y e =
     let (i, y', l, is, holds) = line_holding r.lists.cuts x y e in
     let named : NamesBroken net.graph r.head.colours Stitch y'.at =
     subst (λ (z : PlainZone). NamesBroken net.graph r.head.colours Stitch z.at) is (m.stitches.each i y' l) in
-    let shown : ShowsZone (2 * o.overlap) tiles f y' = subst (ShowsZone (2 * o.overlap) tiles f) is (m.zones i y' l) in
+    let shown : ShowsCutAt (2 * o.overlap) tiles f y' = subst (ShowsCutAt (2 * o.overlap) tiles f) is (m.zones i y' l) in
     let broken : IsBrokenEdge net.graph s.head.colours Stitch y'.at.edge =
     subst (λ cs. IsBrokenEdge net.graph cs Stitch y'.at.edge) same named.edge in
     let (j, z, k, there, at) = n.stitches.all y'.at.edge broken in
     let renamed : NamesBroken net.graph s.head.colours Stitch z.at =
     subst (λ (w : PlainZone). NamesBroken net.graph s.head.colours Stitch w.at) there (n.stitches.each j z k) in
-    let again : ShowsZone (2 * o.overlap) tiles f z = subst (ShowsZone (2 * o.overlap) tiles f) there (n.zones j z k) in
+    let again : ShowsCutAt (2 * o.overlap) tiles f z = subst (ShowsCutAt (2 * o.overlap) tiles f) there (n.zones j z k) in
     let corners : y'.corners ≡ z.corners =
     same_zone (2 * o.overlap) tiles f net.graph r.head.colours s.head.colours y' z shown again named renamed (sym at) in
     held_by_line s.lists.cuts x y (j, z, k, there, sym (ap (λ c. is_in_box c x y) corners) ∙ holds)

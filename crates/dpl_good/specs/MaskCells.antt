@@ -44,15 +44,6 @@ OverlapInZones r = (x y : ℤ) →
     (is_in_boxes r.on_a x y && is_in_boxes r.on_b x y)
     ≡ is_in_boxes (map (λ z. z.corners) r.lists.cuts) x y
 
--- The cut line shows the zone of the cut between its two fragments: a part of their tile that is as
--- long as the overlap and as wide as the tile.
-pub record ShowsZone (over : ℕ) (tiles : List Corners) (f : Fragments)
-    (z : PlainZone) : Type 0 where
-  pub cut : IsCut over tiles (map corners_of f.rects) f.tile z.at.a z.at.b z.corners
-  pub from : ℤ
-  pub part : z.corners ≡ part_of (rect_at tiles (slice_index_or f.tile z.at.a 0)) from
-      (from +ℤ pos over)
-
 -- there is an edge with this number, of this kind, and the colouring breaks it
 pub record IsBrokenEdge (g : Signed) (colours : List Bool) (kind : Kind) (e : ℕ) : Type 0 where
   pub within : e < length g.edges
@@ -97,18 +88,6 @@ pub record AreToldClose (f : Fragments) (net : Net) (r : PlainReport) (x y x' y'
   pub second : HoldsCell f j x' y'
   pub told : Any (JoinsPieces net.pieces i j) r.lists.clashes
 
--- the two fragments of the line hold cells of two shapes that are too close and on one mask
-pub record TellsClose (cells : ℤ → ℤ → Bool) (space : ℕ) (f : Fragments) (r : PlainReport)
-    (b : Broken) : Type 0 where
-  pub x : ℤ
-  pub y : ℤ
-  pub x' : ℤ
-  pub y' : ℤ
-  pub first : HoldsCell f b.a x y
-  pub second : HoldsCell f b.b x' y'
-  pub close : AreTooClose cells space x y x' y'
-  pub mask : AreOnOneMask r x y x' y'
-
 -- a cell is on the mask of the colour of its fragment
 abbrev pub AreOnTheirMasks : Fragments → PlainReport → Type 0
 AreOnTheirMasks f r = (i : ℕ) (x y : ℤ) → HoldsCell f i x y →
@@ -123,14 +102,37 @@ pub record AreMasksOf (o : PlainOptions) (cells : ℤ → ℤ → Bool) (tiles :
   pub own : AreOnTheirMasks f r
   pub together : HoldTogether cells r
   pub overlap : OverlapInZones r
-  pub zones : All (ShowsZone (2 * o.overlap) tiles f) r.lists.cuts
+  pub zones : All (λ z. IsCut (2 * o.overlap) tiles (map corners_of f.rects) f.tile z.at.a z.at.b
+      z.corners) r.lists.cuts
   pub stitches : NameAllBroken net.graph r.head.colours Stitch (λ z. z.at) r.lists.cuts
   pub clashes : NameAllBroken net.graph r.head.colours Clash (λ b. b) r.lists.clashes
   pub told : (x y x' y' : ℤ) →
       AreTooClose cells (2 * o.space) x y x' y' → AreOnOneMask r x y x' y' →
       AreToldClose f net r x y x' y'
-  pub close : All (TellsClose cells (2 * o.space) f r) r.lists.clashes
   pub drawn : DrawsMasks o.layer r.on_a r.on_b (report_text r)
+
+-- ---- what follows of the masks
+
+-- The cut line shows the zone of the cut between its two fragments: a part of their tile that is as
+-- long as the overlap and as wide as the tile.
+pub record ShowsZone (over : ℕ) (tiles : List Corners) (f : Fragments)
+    (z : PlainZone) : Type 0 where
+  pub cut : IsCut over tiles (map corners_of f.rects) f.tile z.at.a z.at.b z.corners
+  pub from : ℤ
+  pub part : z.corners ≡ part_of (rect_at tiles (slice_index_or f.tile z.at.a 0)) from
+      (from +ℤ pos over)
+
+-- the two fragments of the line hold cells of two shapes that are too close and on one mask
+pub record TellsClose (cells : ℤ → ℤ → Bool) (space : ℕ) (f : Fragments) (r : PlainReport)
+    (b : Broken) : Type 0 where
+  pub x : ℤ
+  pub y : ℤ
+  pub x' : ℤ
+  pub y' : ℤ
+  pub first : HoldsCell f b.a x y
+  pub second : HoldsCell f b.b x' y'
+  pub close : AreTooClose cells space x y x' y'
+  pub mask : AreOnOneMask r x y x' y'
 
 -- two reports draw the same masks, cell by cell
 pub record DrawSameMasks (r s : PlainReport) : Type 0 where

@@ -1,5 +1,5 @@
 // What holds of reports that say the truth.
-ghost use Rattle.std.specs.Prelude.{◌≡◌, ◌↔◌, ◌≤◌, ◌*◌, ℕ, ℤ, Bool, List, length, None};
+ghost use Rattle.std.specs.Prelude.{◌≡◌, ◌↔◌, ◌≤◌, ◌*◌, ℕ, ℤ, Bool, List, length, None, All};
 ghost use Rattle.dpl_limits.specs.declared.TheConstants.{MOST_EDGES};
 ghost use Rattle.dpl_cell.specs.Places.{Corners};
 ghost use Rattle.dpl_links.specs.Nets.{IsNet};
@@ -7,7 +7,7 @@ ghost use Rattle.dpl_report.specs.Plain.{PlainReport, plain_report};
 ghost use Rattle.dpl_report.specs.Valid.{IsReport};
 ghost use Rattle.dpl_good.specs.Truths.{SaysTrue};
 ghost use Rattle.dpl_good.specs.Verdicts.{refusal_of, IsGood};
-ghost use Rattle.dpl_good.specs.MaskCells.{AreCutFrom, AreMasksOf, DrawSameMasks};
+ghost use Rattle.dpl_good.specs.MaskCells.{AreCutFrom, AreMasksOf, DrawSameMasks, ShowsZone, TellsClose};
 ghost use Rattle.dpl_good.specs.Facts.{AreNineFacts};
 ghost use Rattle.dpl_cuts.specs.Fragments.{AreFragments};
 
@@ -53,6 +53,23 @@ pub fn masks_are_of_the_layer(options: &Options, fragments: &Fragments, net: &Ne
         AreMasksOf options.now cells tiles fragments.now net.now (plain_report report.now) }
 {
     options.in_range();
+}
+
+/// What the lines of the lists show: each cut line the whole zone of its cut, and each clash line two fragments that hold
+/// cells of two shapes that are too close and on one mask.
+pub fn lines_show_what_is_broken(options: &Options, fragments: &Fragments, net: &Net)
+    requires { IsNet fragments.now options.now.weights (2 * options.now.space) net.now }
+    ensures cuts { (cells : ℤ → ℤ → Bool) (tiles : List Corners) (r : PlainReport) →
+        AreMasksOf options.now cells tiles fragments.now net.now r →
+        All (ShowsZone (2 * options.now.overlap) tiles fragments.now) r.lists.cuts }
+    ensures clashes { (cells : ℤ → ℤ → Bool) (tiles : List Corners) (r : PlainReport) →
+        AreCutFrom options.now cells tiles fragments.now →
+        AreMasksOf options.now cells tiles fragments.now net.now r →
+        All (TellsClose cells (2 * options.now.space) fragments.now r) r.lists.clashes }
+{
+    options.in_range();
+    let _net = net;
+    let _fragments = fragments;
 }
 
 /// What is said of the masks of a report leaves no choice but its letters: where two reports have the same letters, their

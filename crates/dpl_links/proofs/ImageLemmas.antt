@@ -31,6 +31,8 @@ use Rattle.dpl_links.specs.Moving.{key_shift}
 use Rattle.dpl_links.proofs.ImagePorts.{moved_port, mirrored_port_to, transposed_port_to, moved_stretch, flipped_stretch}
 use Rattle.dpl_links.proofs.ImagePorts.{moved_overlap, flipped_overlap, gap_alike, rank_of, rank_alike, or_over}
 use Rattle.dpl_cell.proofs.ImageLemmas.{turned_sum}
+use Rattle.dpl_cell.proofs.BoxLemmas.{HasCell, rects_have}
+use Rattle.dpl_links.proofs.NetLemmas.{net_ties, tie_edges}
 
 -- ---- what images of rectangles keep
 
@@ -40,7 +42,7 @@ pub record Keeps (image : Corners → Corners) (has : Port → Port → Type 0) 
   pub close : (a b : Corners) (reach : ℕ) → AreClose (IsIn a) (IsIn b) reach ↔ AreClose (IsIn (image a)) (IsIn (image b)) reach
   pub gap : (a b : Corners) → rect_gap2 (image a) (image b) ≡ rect_gap2 a b
   pub corner : (a b : Corners) → corner_rank (image a) (image b) ≡ corner_rank a b
-  pub port : (a b : Corners) (p q : Port) → has p q → IsPortTo a b p → IsPortTo (image a) (image b) q
+  pub port : (a b : Corners) (p q : Port) → HasCell a → HasCell b → has p q → IsPortTo a b p → IsPortTo (image a) (image b) q
 
 pub move_keeps : (right up : ℤ) → Keeps (moved right up) (IsMovedPort (key_shift right up))
 move_keeps right up =
@@ -62,7 +64,7 @@ move_keeps right up =
           (moved_stretch right a.x1 a.x2 b.x1 b.x2) (moved_stretch up a.y1 a.y2 b.y1 b.y2);
       corner = λ a b. rank_alike _ _ (overlap a.x1 a.x2 b.x1 b.x2) (overlap a.y1 a.y2 b.y1 b.y2)
           (moved_overlap right a.x1 a.x2 b.x1 b.x2) (moved_overlap up a.y1 a.y2 b.y1 b.y2);
-      port = λ a b p q m t. moved_port right up a b p q m t;
+      port = λ a b p q f g m t. moved_port right up a b p q f g m t;
     }
 
 pub mirror_keeps : Keeps mirrored IsMirroredPort
@@ -81,7 +83,7 @@ mirror_keeps = record {
       (flipped_stretch a.x1 a.x2 b.x1 b.x2) refl;
   corner = λ a b. rank_alike _ (overlap a.y1 a.y2 b.y1 b.y2) (overlap a.x1 a.x2 b.x1 b.x2) (overlap a.y1 a.y2 b.y1 b.y2)
       (flipped_overlap a.x1 a.x2 b.x1 b.x2) refl;
-  port = λ a b p q m t. mirrored_port_to a b p q m t;
+  port = λ a b p q f g m t. mirrored_port_to a b p q f g m t;
 }
 
 pub transposition_keeps : Keeps transposed IsTransposedPort
@@ -91,7 +93,7 @@ transposition_keeps = record {
   gap = λ a b. turned_sum (stretch_gap a.y1 a.y2 b.y1 b.y2 * stretch_gap a.y1 a.y2 b.y1 b.y2) (stretch_gap a.x1
       a.x2 b.x1 b.x2 * stretch_gap a.x1 a.x2 b.x1 b.x2);
   corner = λ a b. ap (λ (z : Bool). rank_of z) (or_over (overlap a.y1 a.y2 b.y1 b.y2) (overlap a.x1 a.x2 b.x1 b.x2));
-  port = λ a b p q m t. transposed_port_to a b p q m t;
+  port = λ a b p q f g m t. transposed_port_to a b p q f g m t;
 }
 
 -- ---- the net
@@ -235,15 +237,15 @@ module _ (image : Corners → Corners) (has : Port → Port → Type 0) (keeps :
         tie_alike : (weight : ℕ) (c d : Cut) → IsCutImage image c d → stitch_tie weight d ≡ stitch_tie weight c
         tie_alike weight c d i = rw (i.first, i.second) refl
 
-  ports_alike : (rects others : List Corners) → others ≡ map image rects → (edges : List Edge) (ports new : List (Port × Port)) →
+  ports_alike : (rects others : List Corners) → others ≡ map image rects → All HasCell rects → (edges : List Edge) (ports new : List (Port × Port)) →
       All (λ e. e.b < length rects) edges → AllZip (HasPorts rects) edges ports →
       AllZip (λ (p : Port × Port) (q : Port × Port). has p.0 q.0 × has p.1 q.1) ports new → AllZip (HasPorts others) edges new
-  ports_alike rects others is [] [] [] h s t = t
-  ports_alike rects others is [] [] (q ∷ qs) h s t = elim t [ ]
-  ports_alike rects others is [] (p ∷ ps) new h s t = elim s [ ]
-  ports_alike rects others is (e ∷ es) [] new h s t = elim s [ ]
-  ports_alike rects others is (e ∷ es) (p ∷ ps) [] h s t = elim t [ ]
-  ports_alike rects others is (e ∷ es) (p ∷ ps) (q ∷ qs) h s t =
+  ports_alike rects others is full [] [] [] h s t = t
+  ports_alike rects others is full [] [] (q ∷ qs) h s t = elim t [ ]
+  ports_alike rects others is full [] (p ∷ ps) new h s t = elim s [ ]
+  ports_alike rects others is full (e ∷ es) [] new h s t = elim s [ ]
+  ports_alike rects others is full (e ∷ es) (p ∷ ps) [] h s t = elim t [ ]
+  ports_alike rects others is full (e ∷ es) (p ∷ ps) (q ∷ qs) h s t =
       let l : e.b < length rects = h 0 e (omega arith) in
       let k : e.a < length rects = let r = e.ordered in omega arith in
       let at = λ (i : ℕ) (m : i < length rects). sym (ap (λ z. rect_at z i) is ∙ get_or-map image rects i nowhere nowhere m) in
@@ -251,9 +253,9 @@ module _ (image : Corners → Corners) (has : Port → Port → Type 0) (keeps :
       (w : IsPortTo (rect_at rects i) (rect_at rects j) x).
       let P : Corners → Type 0 = λ z. IsPortTo z (image (rect_at rects j)) y in
       let Q : Corners → Type 0 = λ z. IsPortTo (rect_at others i) z y in
-      subst Q (at j n) (subst P (at i m) (keeps.port (rect_at rects i) (rect_at rects j) x y u w)) in (
+      subst Q (at j n) (subst P (at i m) (keeps.port (rect_at rects i) (rect_at rects j) x y (full i nowhere m) (full j nowhere n) u w)) in (
         record { first = to e.a e.b k l p.0 q.0 t.0.0 s.0.first; second = to e.b e.a l k p.1 q.1 t.0.1 s.0.second },
-        ports_alike rects others is es ps qs (λ i d m. h (suc i) d (omega arith)) s.1 t.1,
+        ports_alike rects others is full es ps qs (λ i d m. h (suc i) d (omega arith)) s.1 t.1,
       )
 
   -- fragments that are images have the net with the images of its ports
@@ -281,8 +283,9 @@ module _ (image : Corners → Corners) (has : Port → Port → Type 0) (keeps :
         are_bonds = bonds_alike (scene f space) (scene g space) a n.bonds n.are_bonds;
         are_pieces = subst R (sym r.piece_count) (subst Q (sym r.pieces) (subst P (sym size) n.are_pieces));
         are_clashes = subst S (sym r.pieces) (clashes_alike (scene f space) (scene g space) a net.pieces n.links n.are_clashes);
-        edges = ap (λ (z : Signed). map tie_of z.edges) r.graph ∙ n.edges ∙
-            ap (λ (z : List Tie). map bond_tie n.bonds ++ z ++ map (clash_tie weights) n.links) (sym (stitches_alike weights.stitch f.cuts g.cuts i.cuts));
+        edges = tie_edges weights n.bonds g.cuts n.links other.graph.edges
+            (ap (λ (z : Signed). map tie_of z.edges) r.graph ∙ net_ties f weights space net n ∙
+            ap (λ (z : List Tie). map bond_tie n.bonds ++ z ++ map (clash_tie weights) n.links) (sym (stitches_alike weights.stitch f.cuts g.cuts i.cuts)));
         ports = subst T graph (ports_alike (map corners_of f.rects)
-            (map corners_of g.rects) i.rects net.graph.edges net.ports other.ports inside n.ports r.ports);
+            (map corners_of g.rects) i.rects (rects_have f.rects) net.graph.edges net.ports other.ports inside n.ports r.ports);
       }

@@ -17,8 +17,10 @@ use Rattle.dpl_cell.proofs.ImageLemmas.{mirrored_upright, mirrored_corner, trans
 use Rattle.dpl_sign.specs.declared.ports.Port.{Port}
 use Rattle.dpl_sign.specs.Redrawn.{IsMovedPort, IsMirroredPort, IsTransposedPort}
 use Rattle.dpl_links.specs.Pairs.{stretch_gap}
-use Rattle.dpl_links.specs.Ports.{side_key, IsPort, IsPortTo}
+use Rattle.dpl_links.specs.Ports.{side_key, IsPort, IsPortTo, LeavesAt}
 use Rattle.dpl_links.specs.Moving.{key_shift}
+use Rattle.dpl_cell.proofs.BoxLemmas.{HasCell}
+use Rattle.dpl_links.proofs.FacedLemmas.{port_says, port_is}
 
 -- ---- moved
 
@@ -42,7 +44,7 @@ moved_key right up p q port x y m s k e = m.key ∙ ap (λ z. p.key +ℤ key_shi
 
 moved_lies : (right up : ℤ) (a b : Corners) (p q : Port) (lies : Facing)
     → IsMovedPort (key_shift right up) p q → IsFacing a b lies → IsPort lies p
-    → IsPortTo (moved right up a) (moved right up b) q
+    → LeavesAt (moved right up a) (moved right up b) q
 moved_lies right up a b p q (Side port from to) m (inl f) i = record {
   lies = Side port (from +ℤ right) (to +ℤ right);
   facing = inl (moved_level right up a b port from to f);
@@ -67,9 +69,15 @@ moved_lies right up a b p q (Corner port dx dy) m f i = record {
   port = (m.side ∙ i.0, m.dx ∙ i.1, m.dy ∙ i.2);
 }
 
-pub moved_port : (right up : ℤ) (a b : Corners) (p q : Port) → IsMovedPort (key_shift right up) p q
+moved_cell : (right up : ℤ) (r : Corners) → HasCell r → HasCell (moved right up r)
+moved_cell right up r h = let x = h.0 in let y = h.1 in (omega signed, omega signed)
+
+pub moved_port : (right up : ℤ) (a b : Corners) (p q : Port) → HasCell a → HasCell b → IsMovedPort (key_shift right up) p q
     → IsPortTo a b p → IsPortTo (moved right up a) (moved right up b) q
-moved_port right up a b p q m t = moved_lies right up a b p q t.lies m t.facing t.port
+moved_port right up a b p q f g m t =
+    let s = port_says a b p f g t in
+    port_is (moved right up a) (moved right up b) q (moved_cell right up a f) (moved_cell right up b g)
+    (moved_lies right up a b p q s.lies m s.facing s.port)
 
 -- ---- mirrored
 
@@ -82,7 +90,7 @@ upright_turned port from to (inl e) = rw e (omega signed)
 upright_turned port from to (inr e) = rw e (omega signed)
 
 mirrored_lies : (a b : Corners) (p q : Port) (lies : Facing) → IsMirroredPort p q → IsFacing a b lies
-    → IsPort lies p → IsPortTo (mirrored a) (mirrored b) q
+    → IsPort lies p → LeavesAt (mirrored a) (mirrored b) q
 mirrored_lies a b p q (Side port from to) m (inl f) i = record {
   lies = Side (mirrored_port port) (neg_ℤ to) (neg_ℤ from);
   facing = inl (mirrored_level a b port from to f);
@@ -99,8 +107,15 @@ mirrored_lies a b p q (Corner port dx dy) m f i = record {
   port = (m.side ∙ ap mirrored_port i.0, m.dx ∙ i.1, m.dy ∙ i.2);
 }
 
-pub mirrored_port_to : (a b : Corners) (p q : Port) → IsMirroredPort p q → IsPortTo a b p → IsPortTo (mirrored a) (mirrored b) q
-mirrored_port_to a b p q m t = mirrored_lies a b p q t.lies m t.facing t.port
+mirrored_cell : (r : Corners) → HasCell r → HasCell (mirrored r)
+mirrored_cell r h = let x = h.0 in (omega signed, h.1)
+
+pub mirrored_port_to : (a b : Corners) (p q : Port) → HasCell a → HasCell b → IsMirroredPort p q → IsPortTo a b p
+    → IsPortTo (mirrored a) (mirrored b) q
+mirrored_port_to a b p q f g m t =
+    let s = port_says a b p f g t in
+    port_is (mirrored a) (mirrored b) q (mirrored_cell a f) (mirrored_cell b g)
+    (mirrored_lies a b p q s.lies m s.facing s.port)
 
 -- ---- turned over
 
@@ -113,7 +128,7 @@ upright_over port from to (inl e) = rw e (omega signed)
 upright_over port from to (inr e) = rw e (omega signed)
 
 transposed_lies : (a b : Corners) (p q : Port) (lies : Facing) → IsTransposedPort p q → IsFacing a b lies
-    → IsPort lies p → IsPortTo (transposed a) (transposed b) q
+    → IsPort lies p → LeavesAt (transposed a) (transposed b) q
 transposed_lies a b p q (Side port from to) m (inl f) i = record {
   lies = Side (transposed_port port) from to;
   facing = inr (transposed_level a b port from to f);
@@ -132,8 +147,11 @@ transposed_lies a b p q (Corner port dx dy) m f i =
       port = (m.side ∙ ap transposed_port i.0, m.dx ∙ i.2 ∙ ap (λ z. if z == 0 then 1 else dy) e, m.dy ∙ i.1 ∙ ap (λ z. if z == 0 then 1 else dx) e);
     }
 
-pub transposed_port_to : (a b : Corners) (p q : Port) → IsTransposedPort p q → IsPortTo a b p → IsPortTo (transposed a) (transposed b) q
-transposed_port_to a b p q m t = transposed_lies a b p q t.lies m t.facing t.port
+pub transposed_port_to : (a b : Corners) (p q : Port) → HasCell a → HasCell b → IsTransposedPort p q → IsPortTo a b p
+    → IsPortTo (transposed a) (transposed b) q
+transposed_port_to a b p q f g m t =
+    let s = port_says a b p f g t in
+    port_is (transposed a) (transposed b) q (f.1, f.0) (g.1, g.0) (transposed_lies a b p q s.lies m s.facing s.port)
 
 -- ---- gaps and ranks of links
 

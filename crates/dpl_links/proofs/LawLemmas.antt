@@ -29,7 +29,7 @@ use Rattle.dpl_links.specs.Pairs.{Scene, IsBond, IsConflict, rect_gap2, corner_r
 use Rattle.dpl_links.specs.Links.{piece_of, IsLink, IsLeast, AreAlike, AreClashes}
 use Rattle.dpl_links.specs.Nets.{scene, Tie, tie_of, bond_tie, stitch_tie, clash_tie, ties_of, IsNet}
 use Rattle.dpl_links.specs.Spacing.{AreTooClose, IsClashOf, HoldTooClose, AreAllClashes, AreWithinShapes}
-use Rattle.dpl_links.proofs.NetLemmas.{all_edges, edges_length, two_of_two, min_turned, max_turned}
+use Rattle.dpl_links.proofs.NetLemmas.{all_edges, net_ties, edges_length, two_of_two, min_turned, max_turned}
 use Rattle.dpl_list.proofs.Lists.{some_of, all_pairs_map, all_pairs_of_map}
 
 -- ---- pieces
@@ -115,7 +115,7 @@ each_clash : (tiles : List Corners) (f : Fragments) (weights : PlainWeights) (sp
     → IsNet f weights space net
     → All (λ (e : Edge). e.kind ≡ Clash → HoldTooClose tiles (map corners_of f.rects) space e.a e.b) net.graph.edges
 each_clash tiles f weights space net h t n = clash_edges (HoldTooClose tiles (map corners_of f.rects) space) weights
-    n.bonds f.cuts n.links net.graph.edges n.edges
+    n.bonds f.cuts n.links net.graph.edges (net_ties f weights space net n)
     (All-weaker (IsLeast (scene f space) net.pieces) (λ (l : Link). HoldTooClose tiles (map corners_of f.rects) space
     l.a l.b) (λ l m. other_cells tiles (scene f space) l.a l.b h t m.link.conflict) n.links n.are_clashes.each)
 
@@ -187,11 +187,12 @@ clash_of f weights space net i j n c =
     let p : IsLink s net.pieces l = link_between_is s net.pieces i j c in
     let (k, m, h, e, alike) = n.are_clashes.all l p in
     let q : IsLink s net.pieces m = let P : Link → Type 0 = IsLeast s net.pieces in (subst P e (n.are_clashes.each k m h)).link in
-    let long = edges_length weights n.bonds f.cuts n.links net.graph.edges n.edges in
+    let long = edges_length weights n.bonds f.cuts n.links net.graph.edges (net_ties f weights space net n) in
     let at = length n.bonds + length f.cuts + k in
     let w : at < length net.graph.edges = omega arith in
     let d = some_of net.graph.edges at w in
-    let t : tie_of (get_or net.graph.edges at d) ≡ clash_tie weights m = clash_at weights n.bonds f.cuts n.links net.graph.edges k m d n.edges h e in
+    let t : tie_of (get_or net.graph.edges at d) ≡ clash_tie weights m = clash_at weights n.bonds f.cuts n.links net.graph.edges k m d
+    (net_ties f weights space net n) h e in
     let a : (get_or net.graph.edges at d).a ≡ m.a = ap (λ (x : Tie). x.a) t in
     let b : (get_or net.graph.edges at d).b ≡ m.b = ap (λ (x : Tie). x.b) t in
     let ends = alike_ends s net.pieces l m p q alike in (
@@ -284,7 +285,7 @@ one_clash : (f : Fragments) (weights : PlainWeights) (space : ℕ) (net : Net) �
     → AllPairs (λ (d : Edge) (e : Edge). e.kind ≡ Clash → ¬ IsClashOf net.pieces e.a e.b d) net.graph.edges
 one_clash f weights space net n i j d h l e c =
     let ties : AllPairs (AreOther net.pieces) (map tie_of net.graph.edges) = let P : List Tie → Type 0 =
-    AllPairs (AreOther net.pieces) in subst P (sym n.edges)
+    AllPairs (AreOther net.pieces) in subst P (sym (net_ties f weights space net n))
     (other_ties (scene f space) net.pieces weights n.bonds f.cuts n.links n.are_clashes) in
     all_pairs_of_map tie_of (AreOther net.pieces) net.graph.edges ties i j d h l e c.kind c.ends
 

@@ -18,7 +18,7 @@ use Rattle.dpl_links.specs.Pairs.{Scene, are_facing}
 use Rattle.dpl_links.specs.Links.{IsLink, IsLeast}
 use Rattle.dpl_links.specs.Nets.{scene, tie_of, clash_tie, IsNet}
 use Rattle.dpl_links.specs.Weighing.{FaceEachOther, HasWeight}
-use Rattle.dpl_links.proofs.NetLemmas.{all_edges}
+use Rattle.dpl_links.proofs.NetLemmas.{all_edges, net_ties}
 
 -- a place of two stretches is one that they have in common, and stretches that overlap have one
 in_both : (a b c d x : ℤ) → IsWithin a b x → IsWithin c d x → overlap a b c d ≡ true
@@ -87,7 +87,7 @@ clash_weighs s pieces weights l f = record {
 pub edges_weigh : (f : Fragments) (weights : PlainWeights) (space : ℕ) (net : Net) → IsNet f weights space net
     → All (λ (e : Edge). HasWeight weights (map corners_of f.rects) (tie_of e)) net.graph.edges
 edges_weigh f weights space net n =
-    all_edges (HasWeight weights (map corners_of f.rects)) weights n.bonds f.cuts n.links net.graph.edges n.edges
+    all_edges (HasWeight weights (map corners_of f.rects)) weights n.bonds f.cuts n.links net.graph.edges (net_ties f weights space net n)
     (λ k d l. record { bond = λ e. refl; stitch = λ e. absurd (cc); side = λ e t. absurd (cc); corner = λ e t. absurd (cc) })
     (λ k d l. record { bond = λ e. absurd (cc); stitch = λ e. refl; side = λ e t. absurd (cc); corner = λ e t. absurd (cc) })
     (All-weaker (IsLeast (scene f space) net.pieces) (λ (l : Link). HasWeight weights (map corners_of f.rects)

@@ -1,5 +1,5 @@
 // What holds of the net of fragments, said without the steps that find it.
-ghost use Rattle.std.specs.Prelude.{◌≡◌, ◌⊎◌, ℕ, ◌<◌, ◌≤◌, ℤ, ◌<ℤ◌, ◌≤ℤ◌, List, length, map, All};
+ghost use Rattle.std.specs.Prelude.{◌≡◌, ◌↔◌, ◌⊎◌, ℕ, ◌<◌, ◌≤◌, ℤ, ◌<ℤ◌, ◌≤ℤ◌, List, length, map, All};
 ghost use Rattle.dpl_cell.specs.Places.{Corners, corners_of};
 ghost use Rattle.dpl_cell.specs.Images.{moved, mirrored, transposed};
 ghost use Rattle.dpl_near.specs.Shapes.{AreShapes};
@@ -11,12 +11,13 @@ ghost use Rattle.dpl_sign.specs.Redrawn.{IsMovedPort, IsMirroredPort, IsTranspos
 ghost use Rattle.dpl_cuts.specs.Fragments.{AreFragments};
 ghost use Rattle.dpl_cuts.specs.Images.{AreImages};
 ghost use Rattle.dpl_options.specs.Options.{PlainWeights};
-ghost use Rattle.dpl_links.specs.Ports.{IsPort};
+ghost use Rattle.dpl_links.specs.Ports.{IsPort, IsPortTo, LeavesAt};
 ghost use Rattle.dpl_links.specs.Nets.{IsNet, HasMoreEdges, tie_of};
 ghost use Rattle.dpl_links.specs.Spacing.{AreWithinShapes, AreAllClashes};
 ghost use Rattle.dpl_links.specs.Weighing.{HasWeight};
 ghost use Rattle.dpl_links.specs.Moving.{key_shift};
 
+use dpl_cell::Rect;
 use dpl_cuts::types::Fragments;
 
 /// All fragments of a piece are of one shape.
@@ -97,6 +98,15 @@ pub fn nets_may_be_mirrored(fragments: &Fragments, others: &Fragments)
 {
     let _fragments = fragments;
     let _others = others;
+}
+
+/// At which port a link leaves a rectangle, said by what the two share and by which stands before the other.
+pub fn ports_are_by_facing(a: &Rect, b: &Rect)
+    ensures { (p : Port) → IsPortTo (corners_of a.now) (corners_of b.now) p
+        ↔ LeavesAt (corners_of a.now) (corners_of b.now) p }
+{
+    let _first = a;
+    let _second = b;
 }
 
 /// Links stand around a fragment as one meets them when turning counterclockwise from its
