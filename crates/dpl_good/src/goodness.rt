@@ -1,13 +1,22 @@
 // What holds of reports that say the truth.
-ghost use Rattle.std.specs.Prelude.{◌≡◌, ◌↔◌, ◌≤◌, ◌*◌, ℕ, ℤ, Bool, List, length, None, All};
+ghost use Rattle.std.specs.Prelude.{◌≡◌, ◌↔◌, ◌≤◌, ◌<◌, ◌*◌, ◌&&◌, ℕ, ℤ, Bool, true, false, List, [], length, map, None, All, Any, IsTrue};
 ghost use Rattle.dpl_limits.specs.declared.TheConstants.{MOST_EDGES};
-ghost use Rattle.dpl_cell.specs.Places.{Corners};
+ghost use Rattle.dpl_cell.specs.Places.{Corners, corners_of};
+ghost use Rattle.dpl_cell.specs.Cells.{IsIn};
+ghost use Rattle.dpl_cell.specs.Gaps.{cell_gap2};
+ghost use Rattle.dpl_cell.specs.Shapes.{AreOneShape};
+ghost use Rattle.dpl_cuts.specs.Positions.{rect_at};
+ghost use Rattle.dpl_sign.specs.declared.edges.Kind.{Kind};
+ghost use Rattle.dpl_sign.specs.Walks.{edge_at};
+ghost use Rattle.dpl_sign.specs.Colourings.{breaks};
+ghost use Rattle.dpl_links.specs.Spacing.{AreTooClose};
+ghost use Rattle.dpl_boxes.specs.Drawings.{is_in_boxes};
 ghost use Rattle.dpl_links.specs.Nets.{IsNet};
 ghost use Rattle.dpl_report.specs.Plain.{PlainReport, plain_report};
 ghost use Rattle.dpl_report.specs.Valid.{IsReport};
 ghost use Rattle.dpl_good.specs.Truths.{SaysTrue};
 ghost use Rattle.dpl_good.specs.Verdicts.{refusal_of, IsGood};
-ghost use Rattle.dpl_good.specs.MaskCells.{AreCutFrom, AreMasksOf, DrawSameMasks, ShowsZone, TellsClose};
+ghost use Rattle.dpl_good.specs.MaskCells.{AreCutFrom, AreMasksOf, AreOnOneMask, DrawSameMasks, JoinsPieces, ShowsZone, TellsClose};
 ghost use Rattle.dpl_good.specs.Facts.{AreNineFacts};
 ghost use Rattle.dpl_cuts.specs.Fragments.{AreFragments};
 
@@ -68,6 +77,50 @@ pub fn lines_show_what_is_broken(options: &Options, fragments: &Fragments, net: 
         All (TellsClose cells (2 * options.now.space) fragments.now r) r.lists.clashes }
 {
     options.in_range();
+    let _net = net;
+    let _fragments = fragments;
+}
+
+/// The lists leave nothing out. Where no clash is listed no two cells of two shapes that are closer than the spacing are on
+/// one mask, and where no cut is listed no cell is on both. Each stitch and each clash that the colours break is listed,
+/// and each line of a clash names such a one with its ends.
+pub fn lists_leave_nothing_out(options: &Options, fragments: &Fragments, net: &Net)
+    ensures spacing { (cells : ℤ → ℤ → Bool) (tiles : List Corners) (r : PlainReport) →
+        AreMasksOf options.now cells tiles fragments.now net.now r → r.lists.clashes ≡ [] →
+        (x y x' y' : ℤ) → IsTrue (cells x y) → IsTrue (cells x' y') →
+        ¬ AreOneShape cells x y x' y' →
+        cell_gap2 x y x' y' < 2 * options.now.space * (2 * options.now.space) →
+        ¬ AreOnOneMask r x y x' y' }
+    ensures overlap { (cells : ℤ → ℤ → Bool) (tiles : List Corners) (r : PlainReport) →
+        AreMasksOf options.now cells tiles fragments.now net.now r → r.lists.cuts ≡ [] →
+        (x y : ℤ) → (is_in_boxes r.on_a x y && is_in_boxes r.on_b x y) ≡ false }
+    ensures stitches { (cells : ℤ → ℤ → Bool) (tiles : List Corners) (r : PlainReport) →
+        AreMasksOf options.now cells tiles fragments.now net.now r →
+        (e : ℕ) → e < length net.now.graph.edges →
+        (edge_at net.now.graph e).kind ≡ Kind.Stitch →
+        breaks r.head.colours (edge_at net.now.graph e) ≡ true →
+        Any (λ z. z.at.edge ≡ e) r.lists.cuts }
+    ensures clashes { (cells : ℤ → ℤ → Bool) (tiles : List Corners) (r : PlainReport) →
+        AreMasksOf options.now cells tiles fragments.now net.now r →
+        (e : ℕ) → e < length net.now.graph.edges →
+        (edge_at net.now.graph e).kind ≡ Kind.Clash →
+        breaks r.head.colours (edge_at net.now.graph e) ≡ true →
+        Any (λ b. b.edge ≡ e) r.lists.clashes }
+    ensures lines { (cells : ℤ → ℤ → Bool) (tiles : List Corners) (r : PlainReport) →
+        AreMasksOf options.now cells tiles fragments.now net.now r →
+        All (λ b. ((edge_at net.now.graph b.edge).kind ≡ Kind.Clash) ×
+        (breaks r.head.colours (edge_at net.now.graph b.edge) ≡ true) ×
+        (b.a ≡ (edge_at net.now.graph b.edge).a) × (b.b ≡ (edge_at net.now.graph b.edge).b))
+        r.lists.clashes }
+    ensures told { (cells : ℤ → ℤ → Bool) (tiles : List Corners) (r : PlainReport) →
+        AreMasksOf options.now cells tiles fragments.now net.now r →
+        (x y x' y' : ℤ) → AreTooClose cells (2 * options.now.space) x y x' y' →
+        AreOnOneMask r x y x' y' →
+        (i : ℕ) × (j : ℕ) × IsIn (rect_at (map corners_of fragments.now.rects) i) x y ×
+        IsIn (rect_at (map corners_of fragments.now.rects) j) x' y' ×
+        Any (JoinsPieces net.now.pieces i j) r.lists.clashes }
+{
+    let _options = options;
     let _net = net;
     let _fragments = fragments;
 }
