@@ -1,12 +1,12 @@
-"""What guards a definition, or a field of a record: laws, contracts, tests and edits that must be refused, which name it or reach it.
+"""What guards a definition, or a field of a record: laws, contracts, tests and mutants, which name it or reach it.
 
 A law or a contract names the definitions that its clauses have, and reaches those that these call. What the page cites is a law
-too, though its body reads a range. A test names what the contracts of the functions name that it calls, and an edit the
+too, though its body reads a range. A test names what the contracts of the functions name that it calls, and a mutant the
 definition that it changes, or, where it changes a function, what the function's contract names; both reach what these call
 in their own crates, since there the contract says it.
 
 A law guards a field of a record that its clauses name, or of one that they reach where what they reach names the field. A test
-or an edit guards the fields of each record that it names or reaches.
+or a mutant guards the fields of each record that it names or reaches.
 """
 
 from __future__ import annotations
@@ -19,13 +19,13 @@ from typing import Collection, Dict, Iterable, Iterator, List, NamedTuple, Set, 
 from definitions import TOP, Function, Place, all_sources, crate_of, module, reached, reached_within, source, words_in
 from planted import FILE, OLD, lines_of, planted
 
-KINDS = ("law", "contract", "test", "edit")
-FIELD_KINDS = ("law", "test", "edit")
+KINDS = ("law", "contract", "test", "mutant")
+FIELD_KINDS = ("law", "test", "mutant")
 SHOWN = 3
 
 
 class Guard(NamedTuple):
-    """A law, a contract, a test or an edit, with what it names and what it reaches besides."""
+    """A law, a contract, a test or a mutant, with what it names and what it reaches besides."""
 
     kind: str
     name: str
@@ -68,7 +68,7 @@ def all_guards(cited: Collection[Tuple[str, str]]) -> Iterator[Guard]:
                 is_law = one.is_law or (one.path, one.name) in cited
                 yield Guard("law" if is_law else "contract", title(one), named, reached(named)[0])
     for path in planted():
-        yield by_crates("edit", os.path.relpath(path, os.path.join(TOP, "crates")), changed(path, known))
+        yield by_crates("mutant", os.path.relpath(path, os.path.join(TOP, "crates")), changed(path, known))
 
 
 def by_crates(kind: str, name: str, named: Set[Place]) -> Guard:
@@ -95,7 +95,7 @@ def called(path: str, test: Function, known: Dict[Tuple[str, str], Set[Place]], 
 
 
 def changed(path: str, known: Dict[Tuple[str, str], Set[Place]]) -> Set[Place]:
-    """The definitions that an edit changes, or that the contract of a function names in which it changes a line."""
+    """The definitions that a mutant changes, or that the contract of a function names in which it changes a line."""
     found: Set[Place] = set()
     file = ""
     for line in lines_of(path):
@@ -133,7 +133,7 @@ def mentioned(place: Place) -> Set[str]:
 
 
 def guarded_fields(guard: Guard, records: Iterable[Place]) -> Set[Field]:
-    """The fields of these records that a law, a test or an edit guards."""
+    """The fields of these records that a law, a test or a mutant guards."""
     if guard.kind == "contract":
         return set()
     words = set().union(*map(mentioned, guard.found)) if guard.kind == "law" else set()
@@ -169,7 +169,7 @@ def told_of(found: Iterable[Guard]) -> str:
 def field_summary(fields: Dict[Field, List[Guard]]) -> str:
     """How many fields have guards of each kind, and those that have none."""
     kinds = [{guard.kind for guard in found} for found in fields.values()]
-    told = ", ".join(f"{sum(kind in one for one in kinds)} by {'an' if kind == 'edit' else 'a'} {kind}" for kind in FIELD_KINDS)
+    told = ", ".join(f"{sum(kind in one for one in kinds)} by a {kind}" for kind in FIELD_KINDS)
     bare = [f"{field.record.name}.{field.name}" for field, found in fields.items() if not found]
     return f"{len(fields)} fields of records: {told}, {len(bare)} by none of these" + (f": {', '.join(bare)}" if bare else "")
 
@@ -194,5 +194,5 @@ def summary(places: Set[Place], guards: Iterable[Guard]) -> str:
     named: Dict[str, Set[Place]] = {kind: set() for kind in KINDS}
     for guard in guards:
         named[guard.kind] |= guard.named & places
-    told = ", ".join(f"{len(named[kind])} named by {'an' if kind == 'edit' else 'a'} {kind}" for kind in KINDS)
+    told = ", ".join(f"{len(named[kind])} named by a {kind}" for kind in KINDS)
     return f"{len(places)} definitions: {told}, {len(places - set().union(*named.values()))} by none of these"

@@ -13,7 +13,7 @@ import manual
 from kit import BINARY, TOP, Failed
 
 LAUNCHER = ("dpl", "tools", "klayout")
-WITHOUT = shutil.ignore_patterns("__pycache__", ".mypy_cache", "tests", "test", "tried.py", "statement*", "counts", "gate", "edits")
+WITHOUT = shutil.ignore_patterns("__pycache__", ".mypy_cache", "tests", "test", "tried.py", "statement*", "counts", "gate", "mutants")
 
 
 def install(folder: str) -> str:

@@ -1,4 +1,4 @@
-"""Planted faults: edits of the sources that a proof must refuse, those that the gate tries and those that it leaves out.
+"""Mutants: edits of the sources that a proof must refuse, those that the gate tries and those that it leaves out.
 
 A file of one names a source, and lines of it with what stands there instead:
 
@@ -15,12 +15,12 @@ from typing import Iterator, List
 
 from kit import TOP
 
-FOLDERS = ("must-fail", "edits")
+FOLDERS = ("must-fail", "mutants")
 FILE, OLD, NEW = "file: ", "old: ", "new: "
 
 
 def planted() -> List[str]:
-    """The files of all planted faults."""
+    """The files of all mutants."""
     return sorted(path for folder in FOLDERS for path in glob.glob(os.path.join(TOP, "crates", "*", folder, "*.edit")))
 
 
@@ -30,7 +30,7 @@ def lines_of(path: str) -> List[str]:
 
 
 def source_of(path: str, line: str) -> str:
-    """The text of the source that a line names, in the crate of the fault; empty where it is not there."""
+    """The text of the source that a line names, in the crate of the mutant; empty where it is not there."""
     source = os.path.join(os.path.dirname(os.path.dirname(path)), line[len(FILE) :].strip())
     if not os.path.isfile(source):
         return ""
@@ -39,7 +39,7 @@ def source_of(path: str, line: str) -> str:
 
 
 def misfits(path: str) -> Iterator[str]:
-    """Why a fault cannot be planted any more: each of its old texts must stand once in the source."""
+    """Why a mutant cannot be planted any more: each of its old texts must stand once in the source."""
     text, old = "", ""
     for line in lines_of(path):
         if line.startswith(FILE):

@@ -1,4 +1,4 @@
-"""What is told of a planted fault that does not fit its source any more."""
+"""What is told of a mutant that does not fit its source any more."""
 
 from __future__ import annotations
 
@@ -19,11 +19,11 @@ class Planted(unittest.TestCase):
     def misfits(self, *lines: str) -> List[str]:
         """Those of a fault in a crate with one source."""
         with tempfile.TemporaryDirectory() as crate:
-            for folder, name, text in (("src", "lib.rt", SOURCE), ("edits", "one.edit", "\n".join([*lines, ""]))):
+            for folder, name, text in (("src", "lib.rt", SOURCE), ("mutants", "one.edit", "\n".join([*lines, ""]))):
                 os.mkdir(os.path.join(crate, folder))
                 with open(os.path.join(crate, folder, name), "w", encoding="utf-8") as file:
                     file.write(text)
-            return list(planted.misfits(os.path.join(crate, "edits", "one.edit")))
+            return list(planted.misfits(os.path.join(crate, "mutants", "one.edit")))
 
     def test_all_are_found(self) -> None:
         there = glob.glob(os.path.join(os.path.realpath(TOP), "crates", "*", "*", "*.edit"))

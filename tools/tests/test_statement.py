@@ -91,8 +91,8 @@ class Guards(unittest.TestCase):
         cells = guards.Guard("contract", "cells", {CELLS}, {CELLS, BOX})
         self.assertEqual(guards.guarding(BOX, [box, cells]), ["    law that names it: boxes", "    contract that reaches it: cells"])
         self.assertEqual(guards.guarding(CELLS, [box]), [])
-        told = "2 definitions: 1 named by a law, 1 named by a contract, 0 named by a test, 0 named by a edit, 0 by none of these"
-        self.assertEqual(guards.summary({BOX, CELLS}, [box, cells]), told.replace("a edit", "an edit"))
+        told = "2 definitions: 1 named by a law, 1 named by a contract, 0 named by a test, 0 named by a mutant, 0 by none of these"
+        self.assertEqual(guards.summary({BOX, CELLS}, [box, cells]), told)
 
     def test_fields(self) -> None:
         corners = definitions.Place("crates/dpl_cell/specs/Places.antt", "Corners")
@@ -104,13 +104,13 @@ class Guards(unittest.TestCase):
         self.assertEqual(guards.guarded_fields(law._replace(kind="contract"), [corners]), set())
         found = guards.of_fields({corners, BOX}, [law._replace(kind="test")])
         self.assertEqual(guards.told_of(found[field]), "test boxes")
-        told = "4 fields of records: 0 by a law, 4 by a test, 0 by an edit, 0 by none of these"
+        told = "4 fields of records: 0 by a law, 4 by a test, 0 by a mutant, 0 by none of these"
         self.assertEqual(guards.field_summary(found), told)
 
     def test_parameters_over_lines(self) -> None:
         self.assertIn("compare_pairs", definitions.source("crates/dpl_graph_tests/src/plain.rt").functions)
 
-    def test_edit_of_a_definition(self) -> None:
+    def test_mutant_of_a_definition(self) -> None:
         line = next(line for line in definitions.module(BOX.path).blocks[BOX.name] if line.startswith("is_in_box"))
         self.assertEqual(guards.touched(BOX.path, line, {}), {BOX})
 
