@@ -1,5 +1,5 @@
 use Rattle.std.proofs.Common.{arith, rules, ◌<◌, refl, inl, inr, length}
-use Rattle.dpl_flood.proofs.LabelLemmas.{grown, grown_state}
+use Rattle.dpl_flood.proofs.LabelLemmas.{grown}
 use Rattle.dpl_flood.proofs.relabelling.grow.Goals as goal
 
 pub index_mut-requires : goal.index_mut-requires
