@@ -3,6 +3,7 @@ use Rattle.std.proofs.Common.{◌≡◌, ◌↔◌, ℕ, List}
 use Rattle.dpl_sign.specs.declared.nets.Net.{Net}
 use Rattle.dpl_cuts.specs.declared.types.Fragments.{Fragments}
 use Rattle.dpl_options.specs.Options.{PlainOptions, AreOptions}
+use Rattle.dpl_links.proofs.NetLemmas.{net_ties}
 use Rattle.dpl_layer.specs.Drawings.{Cells, OnLayer}
 use Rattle.dpl_layer.specs.Layers.{IsLayer, IsLayerOf}
 use Rattle.dpl_report.specs.Plain.{PlainReport}
@@ -22,7 +23,8 @@ IsOfFacts o text cost bound cells kept =
 
 -- the cuts of a layer are the stitches of its net
 layer_takes : (o : PlainOptions) (cells kept : Cells) (f : Fragments) (net : Net) → IsLayerOf o cells kept f net → TakeCuts net.graph.edges f.cuts
-layer_takes o cells kept f net l = net_takes o.weights l.net.bonds f.cuts l.net.links net.graph.edges l.net.edges
+layer_takes o cells kept f net l =
+    net_takes o.weights l.net.bonds f.cuts l.net.links net.graph.edges (net_ties f o.weights _ net l.net)
 
 facts : (o : PlainOptions) (text : List ℕ) (cost bound : ℕ) (cells kept : Cells) → AreOptions o
     → IsVerdictOfCells o text (Yes cost bound) cells kept → IsOfFacts o text cost bound cells kept

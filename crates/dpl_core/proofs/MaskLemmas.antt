@@ -7,6 +7,7 @@ use Rattle.dpl_options.specs.Options.{PlainOptions}
 use Rattle.dpl_report.specs.Plain.{PlainReport}
 use Rattle.dpl_report.specs.ReportLines.{report_text}
 use Rattle.dpl_good.specs.MaskCells.{AreCutFrom, AreMasksOf}
+use Rattle.dpl_links.proofs.NetLemmas.{net_ties}
 use Rattle.dpl_good.proofs.BrokenLemmas.{net_takes}
 use Rattle.dpl_good.proofs.FactLemmas.{facts_of_truth}
 use Rattle.dpl_balance.specs.Balance.{AreBalanced}
@@ -42,7 +43,7 @@ report_of_cells o f n r is masks cells kept l =
       fragments = f;
       net = n;
       layer = l.is;
-      facts = facts_of_truth o f n (report_text r) r (net_takes o.weights net.bonds f.cuts net.links n.graph.edges net.edges) is.valid refl is.truth;
+      facts = facts_of_truth o f n (report_text r) r (net_takes o.weights net.bonds f.cuts net.links n.graph.edges (net_ties f o.weights _ n net)) is.valid refl is.truth;
       tight = is.tight;
       least = is.least;
       masks = masks cells kept l;

@@ -9,6 +9,7 @@ use Rattle.dpl_options.specs.Options.{PlainOptions}
 use Rattle.dpl_report.specs.Plain.{PlainReport}
 use Rattle.dpl_report.specs.ReportLines.{report_text}
 use Rattle.dpl_good.specs.Truths.{SaysTrue}
+use Rattle.dpl_links.proofs.NetLemmas.{net_ties}
 use Rattle.dpl_good.proofs.BrokenLemmas.{net_takes}
 use Rattle.dpl_good.proofs.FactLemmas.{facts_of_truth}
 use Rattle.dpl_refine.specs.Refined.{IsRefined}
@@ -65,7 +66,7 @@ refined_of_cells : (o : PlainOptions) (f : Fragments) (n : Net) (r : PlainReport
     → HaveMasks o f n r → (cells kept : Cells) → IsCutLayer o cells kept f n → IsRefinedOfCells o r cells kept
 refined_of_cells o f n r is masks cells kept l =
     let net = l.is.layer.net in
-    let takes = net_takes o.weights net.bonds f.cuts net.links n.graph.edges net.edges in
+    let takes = net_takes o.weights net.bonds f.cuts net.links n.graph.edges (net_ties f o.weights _ n net) in
     record {
       fragments = f;
       net = n;
