@@ -9,6 +9,7 @@ from bound import Run
 from files import holds, read_json
 from found import Found
 from history import part_faults
+from listed import Listed
 from manifest import Manifest
 from masks import Reader, cell_of
 from records import Part, path_of
@@ -21,8 +22,8 @@ LAYERS = (1, 2)
 class Joined:
     """The file of all masks; `layout` is what it has, or None where KLayout cannot read it."""
 
-    def __init__(self, run: Run, target: str) -> None:
-        self.run, self.target = run, target
+    def __init__(self, run: Run, target: str, listed: Listed) -> None:
+        self.run, self.target, self.listed = run, target, listed
         self.manifest = Manifest(run)
         self.sums: dict[str, Any] = read_json(run.path("joined.json"))
         self.layout, self.unread = read_masks(run.path(target))
@@ -58,11 +59,12 @@ class Joined:
         return faults
 
     def faults_of(self, number: int) -> list[Found]:
-        """What is wrong with a part."""
+        """What is wrong with a part; what its report lists is noted."""
         part = self.manifest.parts[number]
         faults = part_faults(self.run, part)
         try:
             report = Report(self.run.folder, part)
+            self.listed.note(number, report, self.run.path("cut", part["name"] + ".cif"))
             if report.sha256 != self.sums["reports"].get(part["name"]):
                 faults.append(Found("its report is not the one that was joined", part["name"]))
             faults += self.cell_faults(part, report)
@@ -71,6 +73,8 @@ class Joined:
                 faults.append(Found("the rest of the layer is nearer than the spacing", part["name"], tuple((x, y) for x, y in near)))
         except (Refused, RuntimeError, OSError, ValueError) as error:
             faults.append(Found(str(error), part["name"]))
+        except IndexError:
+            faults.append(Found("its report names what is not there", part["name"]))
         return faults
 
     def cell_faults(self, part: Part, report: Report) -> list[Found]:
