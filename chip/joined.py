@@ -1,6 +1,7 @@
 """The joined masks, part by part: whether each part's cell is what its report says, and its files those that were checked."""
 
 import tempfile
+from functools import cached_property
 from typing import Any
 
 import pya  # type: ignore[import]
@@ -9,7 +10,7 @@ from bound import Run
 from files import holds, read_json
 from found import Found
 from history import part_faults
-from listed import Listed
+from listed import Listed, lists_of
 from manifest import Manifest
 from masks import Reader, cell_of
 from records import Part, path_of
@@ -35,6 +36,14 @@ class Joined:
 
     def top(self) -> Any:
         return self.layout.cell(self.manifest.cell)
+
+    @cached_property
+    def placed(self) -> dict[str, list[Any]]:
+        """What stands in the top cell, by the names of the cells."""
+        found: dict[str, list[Any]] = {}
+        for inst in self.top().each_inst():
+            found.setdefault(inst.cell.name, []).append(inst)
+        return found
 
     def bounds(self) -> Any:
         return self.top().bbox()
@@ -62,9 +71,10 @@ class Joined:
         """What is wrong with a part; what its report lists is noted."""
         part = self.manifest.parts[number]
         faults = part_faults(self.run, part)
+        lists = None
         try:
             report = Report(self.run.folder, part)
-            self.listed.note(number, report, self.run.path("cut", part["name"] + ".cif"))
+            lists = lists_of(report, self.run.path("cut", part["name"] + ".cif"))
             if report.sha256 != self.sums["reports"].get(part["name"]):
                 faults.append(Found("its report is not the one that was joined", part["name"]))
             faults += self.cell_faults(part, report)
@@ -75,11 +85,13 @@ class Joined:
             faults.append(Found(str(error), part["name"]))
         except IndexError:
             faults.append(Found("its report names what is not there", part["name"]))
+        if lists is not None:
+            self.listed.note(number, lists)
         return faults
 
     def cell_faults(self, part: Part, report: Report) -> list[Found]:
         name = cell_of(part["name"])
-        placed = [inst for inst in self.top().each_inst() if inst.cell.name == name]
+        placed = self.placed.get(name, [])
         if report.refusal:
             return [Found("it was refused, and the masks have a cell of it", part["name"])] if placed else []
         if len(placed) != 1 or placed[0].trans != pya.Trans() or placed[0].is_regular_array():

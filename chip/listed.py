@@ -43,12 +43,8 @@ class Listed:
     def path(self, number: int) -> str:
         return os.path.join(self.folder, f"{number}.npz")
 
-    def note(self, number: int, report: Report, text: str) -> None:
-        """Writes what a report lists, of a part with a text."""
-        refused = text_boxes(text) if report.refusal else no_boxes()
-        net = no_net() if report.refusal else net_of(report)
-        zones = numpy.array(report.zones(), numpy.int64).reshape(-1, 4)
-        numpy.savez(self.path(number), zones=zones, refused=refused, **net._asdict())
+    def note(self, number: int, lists: Lists) -> None:
+        numpy.savez(self.path(number), zones=lists.zones, refused=lists.refused, **lists.net._asdict())
 
     def read(self, number: int) -> Lists | None:
         """What is listed of a part; None where its report could not be read, which is told of the part itself."""
@@ -58,12 +54,12 @@ class Listed:
             return Lists(found["zones"], found["refused"], Net(*(found[name] for name in Net._fields)))
 
 
-def no_boxes() -> Array:
-    return numpy.zeros((0, 4), numpy.int64)
-
-
-def no_net() -> Net:
-    return Net(no_boxes(), *(numpy.zeros(0, numpy.int64) for _ in Net._fields[1:]))
+def lists_of(report: Report, text: str) -> Lists:
+    """What a report lists, of a part whose text has a path."""
+    no_boxes, none = numpy.zeros((0, 4), numpy.int64), numpy.zeros(0, numpy.int64)
+    if report.refusal:
+        return Lists(no_boxes, text_boxes(text), Net(no_boxes, none, none, none, none))
+    return Lists(numpy.array(report.zones(), numpy.int64).reshape(-1, 4), no_boxes, net_of(report))
 
 
 def text_boxes(path: str) -> Array:
