@@ -107,7 +107,8 @@ class Joined:
 
 
 def read_masks(path: str) -> tuple[Any, str]:
-    layout = pya.Layout(False)
+    """The masks with each shape for itself: a box meets all members of a repetition, or none of them."""
+    layout = pya.Layout(True)
     try:
         layout.read(path)
         return layout, ""
