@@ -3,13 +3,15 @@
 The form of a file is in settings.schema.json. Where it has several layers, each gives one run its settings.
 """
 
+import importlib
 import json
 import os
 from typing import Any
 
-from jsonschema import Draft7Validator  # type: ignore[import]
-
 from refused import Refused, RefusedAll
+
+# mypy knows its types on some machines, and on others not.
+jsonschema = importlib.import_module("jsonschema")
 
 HERE = os.path.dirname(os.path.abspath(__file__))
 SCHEMA = os.path.join(HERE, "settings.schema.json")
@@ -20,7 +22,7 @@ def runs_of(path: str) -> list[dict[str, Any]]:
     values = loaded(path)
     with open(SCHEMA) as file:
         schema = json.load(file)
-    faults = sorted({line for error in Draft7Validator(schema).iter_errors(values) for line in faults_of(error)})
+    faults = sorted({line for error in jsonschema.Draft7Validator(schema).iter_errors(values) for line in faults_of(error)})
     if faults:
         raise RefusedAll(faults)
     folder = os.path.dirname(os.path.abspath(path))

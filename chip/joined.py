@@ -1,6 +1,7 @@
 """The joined masks, part by part: whether each part's cell is what its report says, and its files those that were checked."""
 
 import tempfile
+from functools import cached_property
 from typing import Any
 
 import pya  # type: ignore[import]
@@ -9,6 +10,7 @@ from bound import Run
 from files import holds, read_json
 from found import Found
 from history import part_faults
+from listed import Listed, lists_of
 from manifest import Manifest
 from masks import Reader, cell_of
 from records import Part, path_of
@@ -21,8 +23,8 @@ LAYERS = (1, 2)
 class Joined:
     """The file of all masks; `layout` is what it has, or None where KLayout cannot read it."""
 
-    def __init__(self, run: Run, target: str) -> None:
-        self.run, self.target = run, target
+    def __init__(self, run: Run, target: str, listed: Listed) -> None:
+        self.run, self.target, self.listed = run, target, listed
         self.manifest = Manifest(run)
         self.sums: dict[str, Any] = read_json(run.path("joined.json"))
         self.layout, self.unread = read_masks(run.path(target))
@@ -34,6 +36,14 @@ class Joined:
 
     def top(self) -> Any:
         return self.layout.cell(self.manifest.cell)
+
+    @cached_property
+    def placed(self) -> dict[str, list[Any]]:
+        """What stands in the top cell, by the names of the cells."""
+        found: dict[str, list[Any]] = {}
+        for inst in self.top().each_inst():
+            found.setdefault(inst.cell.name, []).append(inst)
+        return found
 
     def bounds(self) -> Any:
         return self.top().bbox()
@@ -58,11 +68,13 @@ class Joined:
         return faults
 
     def faults_of(self, number: int) -> list[Found]:
-        """What is wrong with a part."""
+        """What is wrong with a part; what its report lists is noted."""
         part = self.manifest.parts[number]
         faults = part_faults(self.run, part)
+        lists = None
         try:
             report = Report(self.run.folder, part)
+            lists = lists_of(report, self.run.path("cut", part["name"] + ".cif"))
             if report.sha256 != self.sums["reports"].get(part["name"]):
                 faults.append(Found("its report is not the one that was joined", part["name"]))
             faults += self.cell_faults(part, report)
@@ -71,11 +83,15 @@ class Joined:
                 faults.append(Found("the rest of the layer is nearer than the spacing", part["name"], tuple((x, y) for x, y in near)))
         except (Refused, RuntimeError, OSError, ValueError) as error:
             faults.append(Found(str(error), part["name"]))
+        except IndexError:
+            faults.append(Found("its report names what is not there", part["name"]))
+        if lists is not None:
+            self.listed.note(number, lists)
         return faults
 
     def cell_faults(self, part: Part, report: Report) -> list[Found]:
         name = cell_of(part["name"])
-        placed = [inst for inst in self.top().each_inst() if inst.cell.name == name]
+        placed = self.placed.get(name, [])
         if report.refusal:
             return [Found("it was refused, and the masks have a cell of it", part["name"])] if placed else []
         if len(placed) != 1 or placed[0].trans != pya.Trans() or placed[0].is_regular_array():
@@ -91,7 +107,8 @@ class Joined:
 
 
 def read_masks(path: str) -> tuple[Any, str]:
-    layout = pya.Layout(False)
+    """The masks with each shape for itself: a box meets all members of a repetition, or none of them."""
+    layout = pya.Layout(True)
     try:
         layout.read(path)
         return layout, ""

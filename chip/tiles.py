@@ -8,16 +8,14 @@ import numpy
 import pya  # type: ignore[import]
 
 from bound import Run
-from files import read_text
 from found import Found, Place
 from fragments import Array
 from grid import Grid
 from joined import Joined
 from keep import Keep
-from refused import Refused
-from reports import Report, boxes_of
+from listed import Listed, Lists, text_boxes
 from source import Source
-from told import Net, Told
+from told import Told
 from windows import Windows
 
 # Shapes of a tile, about.
@@ -27,8 +25,8 @@ TILE = 20000
 class Tiles:
     """Lengths are counted in the greatest unit that both the layout and the grid are whole numbers of."""
 
-    def __init__(self, run: Run, masks: Joined) -> None:
-        self.run, self.masks = run, masks
+    def __init__(self, run: Run, masks: Joined, listed: Listed) -> None:
+        self.run, self.masks, self.listed = run, masks, listed
         self.source = Source(run.chosen)
         self.keep = Keep(self.source, run.chosen)
         run.see_layout()
@@ -40,16 +38,7 @@ class Tiles:
         self.windows = Windows(self.source, TILE)
         self.parts = masks.manifest.parts
         self.around = Grid([part["bounds"] for part in self.parts])
-        self.report = lru_cache(maxsize=16)(self.read)
-        self.boxes = lru_cache(maxsize=16)(self.text_boxes)
-        self.net = lru_cache(maxsize=16)(lambda number: Net(Report(run.folder, self.parts[number])))
-
-    def read(self, number: int) -> Report | None:
-        """The report of a part; None where it cannot be read, which is told of the part itself."""
-        try:
-            return Report(self.run.folder, self.parts[number])
-        except (Refused, OSError, ValueError):
-            return None
+        self.boxes = lru_cache(maxsize=16)(lambda number: text_boxes(run.path("cut", self.parts[number]["name"] + ".cif")))
 
     def count(self) -> int:
         return self.windows.columns * self.windows.rows
@@ -67,7 +56,8 @@ class Tiles:
         grid = pya.Box(*(v * self.own // self.finer for v in (box.left, box.bottom, box.right, box.top))).enlarged(*[self.reach(self.finer)] * 2)
         near = self.around.meeting([grid.left, grid.bottom, grid.right, grid.top])
         a, b = (self.merged(self.masks.shapes(letter, grid, self.finer)) for letter in "AB")
-        refused, zones = self.listed(near, grid)
+        lists = self.lists(near).values()
+        refused, zones = self.region([it.refused for it in lists], grid), self.region([it.zones for it in lists], grid)
         unlike = (layer ^ (a + b + refused)) & tile
         overlaps = ((a & b) ^ zones) & tile
         faults = [self.found("the masks together are not the layer", shape.bbox(), near) for shape in unlike.each()]
@@ -85,16 +75,17 @@ class Tiles:
         found.merged_semantics = False
         return found
 
-    def listed(self, near: list[int], box: Any) -> tuple[Any, Any]:
-        """What parts list that meets a box: the layer of those that were refused, and the zones of the others."""
-        refused, zones = pya.Region(), pya.Region()
-        for number, report in self.reports(near):
-            found = self.boxes(number) if report.refusal else numpy.array(report.zones(), numpy.int64).reshape(-1, 4)
-            into = refused if report.refusal else zones
-            for corners in within(found, box).tolist():
-                into.insert(pya.Box(*corners))
-        scale = pya.ICplxTrans(self.finer)
-        return refused.transformed(scale), zones.transformed(scale)
+    def lists(self, near: list[int]) -> dict[int, Lists]:
+        """What parts list, of those whose reports could be read."""
+        return {number: lists for number in near if (lists := self.listed.of(number)) is not None}
+
+    def region(self, boxes: list[Array], where: Any) -> Any:
+        """The boxes of some parts that meet a box, all in grid units."""
+        found = pya.Region()
+        for some in boxes:
+            for corners in touching(some, [where.left, where.bottom, where.right, where.top]).tolist():
+                found.insert(pya.Box(*corners))
+        return found.transformed(pya.ICplxTrans(self.finer))
 
     def kept(self, box: Any, layer: Any) -> Any:
         """What the keep layer has on the layer in a tile."""
@@ -102,20 +93,12 @@ class Tiles:
             return layer
         return self.keep.shapes(box).transformed(pya.ICplxTrans(self.own))
 
-    def reports(self, numbers: list[int]) -> list[tuple[int, Report]]:
-        return [(number, report) for number in numbers if (report := self.report(number)) is not None]
-
-    def text_boxes(self, number: int) -> Array:
-        """The boxes of the layer in the text of a part."""
-        text = read_text(self.run.path("cut", self.parts[number]["name"] + ".cif")).encode()
-        return boxes_of(text.split(b"\nL ")[1])
-
     def spacing(self, letter: str, mask: Any, window: Any, near: list[int]) -> list[Found]:
         """The shapes of a mask that are closer than the spacing, and neither of one shape nor told by a conflict."""
         pairs = [pair for pair in mask.isolated_check(self.space).each() if pair.bbox().touches(window)]
         if not pairs:
             return []
-        nets = {number: self.net(number) for number, report in self.reports(near) if not report.refusal}
+        nets = {number: lists.net for number, lists in self.lists(near).items()}
         edges, others = (array_of([edge.bbox() for edge in found]) for found in zip(*((pair.first, pair.second) for pair in pairs)))
         told = Told(nets, self.space, self.finer).tells(letter, edges, others)
         what = f"two shapes on mask {letter} are too close, and no conflict is listed"
@@ -135,10 +118,6 @@ class Tiles:
 
 def array_of(boxes: list[Any]) -> Array:
     return numpy.array([[box.left, box.bottom, box.right, box.top] for box in boxes], numpy.int64).reshape(-1, 4)
-
-
-def within(boxes: Array, box: Any) -> Array:
-    return touching(boxes, [box.left, box.bottom, box.right, box.top])
 
 
 def touching(boxes: Array, corners: list[Any]) -> Array:

@@ -9,46 +9,20 @@ from typing import NamedTuple
 import numpy
 
 from clusters import close, counted
-from fragments import Array, classes, pairs, sides
-from reports import Report
+from fragments import Array
+from listed import Net, code_of
 
 
 class Met(NamedTuple):
-    """Which edges run along which boxes of a mask: for each such pair the edge, and of the box its corners, and the numbers
-    of its part, its fragment's shape and its fragment's piece."""
+    """Boxes of a mask: of each its corners, and the numbers of its part, its fragment's shape and its fragment's piece."""
 
-    edge: Array
     rects: Array
     part: Array
     shape: Array
     piece: Array
 
-
-class Net:
-    """The boxes of a report, the pieces and shapes of its fragments, and the pairs of pieces that its conflicts tell."""
-
-    def __init__(self, report: Report) -> None:
-        rects = report.fragments()
-        goes_on = [(*cut[3:7], fragment) for cut in report.cuts for fragment in cut[1:3]]
-        own = numpy.column_stack((rects, numpy.arange(len(rects))))
-        both = numpy.concatenate((own, numpy.array(goes_on, numpy.int64).reshape(-1, 5)))
-        self.rects, self.fragments = both[:, :4], both[:, 4]
-        self.letters = numpy.frombuffer(report.letters, numpy.uint8)[self.fragments]
-        first, second = pairs(rects, 1)
-        bonds, stitches = sides(rects[first], rects[second])
-        self.pieces = classes(len(rects), first[bonds], second[bonds])
-        self.shapes = classes(len(rects), first[bonds | stitches], second[bonds | stitches])
-        ends = self.pieces[numpy.array([clash[1:3] for clash in report.clashes], numpy.int64).reshape(-1, 2)]
-        self.told = numpy.unique(code_of(ends[:, 0], ends[:, 1]))
-
-    def met(self, letter: str, edges: Array, number: int, finer: int) -> Met:
-        """What of a mask edges run along; edges are boxes whose lengths are counted `finer` to a grid unit."""
-        low, high = edges[:, :2].min(axis=0), edges[:, 2:].max(axis=0)
-        near = (self.letters == ord(letter)) & (self.rects[:, :2] * finer <= high).all(axis=1) & (self.rects[:, 2:] * finer >= low).all(axis=1)
-        rects, fragments = self.rects[near] * finer, self.fragments[near]
-        edge, item = meeting(edges, rects)
-        fragments = fragments[item]
-        return Met(edge, rects[item], numpy.full(len(edge), number), self.shapes[fragments], self.pieces[fragments])
+    def some(self, which: Array) -> "Met":
+        return Met(*(column[which] for column in self))
 
 
 class Told:
@@ -59,36 +33,40 @@ class Told:
 
     def tells(self, letter: str, edges: Array, others: Array) -> Array:
         """Which pairs of edges of a mask that face each other are of one shape, or told."""
-        if not self.nets:
-            return numpy.zeros(len(edges), bool)
-        i, j = self.met(letter, edges), self.met(letter, others)
-        of_first, of_second = same(i.edge, j.edge)
-        first, second = (Met(*(column[k] for column in met)) for met, k in ((i, of_first), (j, of_second)))
-        of_one_shape = (first.part == second.part) & (first.shape == second.shape)
-        near = gap2(first.rects, second.rects) < self.space**2
-        told = near & self.listed(first, second)
         explained = numpy.zeros(len(edges), bool)
-        explained[first.edge[of_one_shape | told]] = True
-        explained[first.edge[near & ~of_one_shape & ~told]] = False
+        if self.nets:
+            (i, along), (j, across) = self.met(letter, edges), self.met(letter, others)
+            of_first, of_second = same(i, j)
+            edge, first, second = i[of_first], along.some(of_first), across.some(of_second)
+            of_one_shape = (first.part == second.part) & (first.shape == second.shape)
+            near = gap2(first.rects, second.rects) < self.space**2
+            told = near & self.listed(first, second)
+            explained[edge[of_one_shape | told]] = True
+            explained[edge[near & ~of_one_shape & ~told]] = False
         return explained
 
-    def met(self, letter: str, edges: Array) -> Met:
-        found = [net.met(letter, edges, number, self.finer) for number, net in self.nets.items()]
-        return Met(*(numpy.concatenate(columns) for columns in zip(*found)))
+    def met(self, letter: str, edges: Array) -> tuple[Array, Met]:
+        """Which edges run along which boxes of a mask: for each such pair the edge, and the box. Edges are boxes too."""
+        low, high = edges[:, :2].min(axis=0), edges[:, 2:].max(axis=0)
+        found = [self.near(number, letter, low, high) for number in self.nets]
+        boxes = Met(*map(numpy.concatenate, zip(*found)))
+        edge, item = meeting(edges, boxes.rects)
+        return edge, boxes.some(item)
+
+    def near(self, number: int, letter: str, low: Array, high: Array) -> Met:
+        """What a part has of a mask between two corners."""
+        net = self.nets[number]
+        rects = net.rects * self.finer
+        here = (net.letters == ord(letter)) & (rects[:, :2] <= high).all(axis=1) & (rects[:, 2:] >= low).all(axis=1)
+        return Met(rects[here], numpy.full(here.sum(), number), net.shapes[here], net.pieces[here])
 
     def listed(self, first: Met, second: Met) -> Array:
         """Which pairs are of two pieces of one part that a conflict joins."""
-        found = numpy.zeros(len(first.edge), bool)
-        for number, net in self.nets.items():
+        found = numpy.zeros(len(first.part), bool)
+        for number in numpy.unique(first.part).tolist():
             here = (first.part == number) & (second.part == number)
-            found[here] = numpy.isin(code_of(first.piece[here], second.piece[here]), net.told)
+            found[here] = numpy.isin(code_of(first.piece[here], second.piece[here]), self.nets[number].told)
         return found
-
-
-def code_of(first: Array, second: Array) -> Array:
-    """A number for a pair of pieces, whichever comes first."""
-    code: Array = numpy.minimum(first, second) << 32 | numpy.maximum(first, second)
-    return code
 
 
 def meeting(edges: Array, rects: Array) -> tuple[Array, Array]:

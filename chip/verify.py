@@ -7,17 +7,19 @@ alone; and two shapes of one mask that are closer than the spacing belong to a c
 
 import multiprocessing
 import os
+import shutil
 import sys
-from collections.abc import Iterable
+from collections.abc import Iterator
 from concurrent.futures import ProcessPoolExecutor
 
 sys.path.insert(0, os.path.dirname(os.path.abspath(__file__)))
 
 from bound import Run
-from files import read_text
+from files import clear, read_text
 from found import Found, lines_of
 from history import cut_faults
 from joined import Joined
+from listed import Listed
 from manifest import Manifest
 from records import path_of
 from refused import Refused, guard
@@ -36,21 +38,21 @@ work: list[Joined | Tiles] = []
 
 def faults_in(run: Run, target: str, processes: int) -> list[str]:
     """All faults in lines."""
-    joined = Joined(run, target)
+    listed = Listed(run.path("listed"))
+    joined = Joined(run, target, listed)
     faults = cut_faults(run, joined.manifest) + joined.faults()
     if not joined.manifest.parts:
         faults.append(Found("there is no part"))
     faults += [Found(fault) for fault in faults_of(read_text(run.path("table.txt")), answers(run, joined.manifest))]
-    tasks = []
     if joined.layout is not None and not joined.layout.has_cell(joined.manifest.cell):
         faults.append(Found(f"the masks have no cell {joined.manifest.cell}"))
     elif joined.layout is not None:
-        tiles = Tiles(run, joined)
+        tiles = Tiles(run, joined, listed)
         faults += tiles.outside()
         work[:] = joined, tiles
-        tasks = [(0, number) for number in range(len(joined.manifest.parts))] + [(1, number) for number in range(tiles.count())]
-    for found in done(tasks, processes):
-        faults += found
+        clear(listed.folder)
+        faults += done([len(joined.manifest.parts), tiles.count()], processes)
+        shutil.rmtree(listed.folder)
     return lines_of(faults)
 
 
@@ -60,11 +62,13 @@ def answers(run: Run, manifest: Manifest) -> dict[str, str]:
     return {name: read_text(path).strip() if os.path.exists(path) else "" for name, path in paths.items()}
 
 
-def done(tasks: list[tuple[int, int]], processes: int) -> Iterable[list[Found]]:
-    if processes == 1 or len(tasks) < 2:
-        return map(task, tasks)
+def done(counts: list[int], processes: int) -> Iterator[Found]:
+    """What is found in the work, each with so many tasks: all parts first, since tiles look up what their reports list."""
     with ProcessPoolExecutor(processes, multiprocessing.get_context("fork")) as pool:
-        return list(pool.map(task, tasks))
+        for kind, count in enumerate(counts):
+            tasks = [(kind, number) for number in range(count)]
+            for found in pool.map(task, tasks) if processes > 1 else map(task, tasks):
+                yield from found
 
 
 def task(which: tuple[int, int]) -> list[Found]:

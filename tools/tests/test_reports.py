@@ -2,6 +2,7 @@
 
 from __future__ import annotations
 
+import importlib
 import json
 import os
 import re
@@ -90,7 +91,7 @@ class Sums(unittest.TestCase):
     def test_the_form_for_scripts(self) -> None:
         """docs/report.md has the schema."""
         try:
-            import jsonschema  # type: ignore[import]
+            jsonschema = importlib.import_module("jsonschema")
         except ImportError:
             self.skipTest("no jsonschema here")
         with open(os.path.join(TOP, "docs", "report.md"), encoding="utf-8") as file:
