@@ -7,7 +7,7 @@ use crate::parting::{Parts, add_at, is_broken, number_at};
 use crate::streets::Streets;
 use crate::tours::Tours;
 use crate::trees::Trees;
-use crate::ways::{Reach, rows_of, walk_over};
+use crate::ways::{Reach, row_of, rows_of, walk_over};
 use dpl_list::Grouped;
 use dpl_sign::{Cycle, Signed};
 use std::alloc::{AllocError as NoMemory, Global};
@@ -22,8 +22,11 @@ const MORE_LOOKS: [usize; 2] = [20, 100];
 /// Each broken edge is taken so often at most.
 const MOST_ROUNDS: usize = 64;
 
-/// A walk takes one of so many parts of what its broken edge may carry.
-const SHARES: u64 = 10;
+/// A walk takes one of so many parts of what its broken edge may carry, or of fewer where the steps would not do.
+const MOST_SHARES: u64 = 10;
+
+/// For one walk about so many times the edges at its broken one are looked at.
+const ROWS: u64 = 8;
 
 /// So many edges are looked at at most to find walks that go with the given cycles, which bounds the time.
 const MOST_STEPS_ONTO: u64 = 1 << 21;
@@ -80,6 +83,7 @@ struct Growth<'a> {
     reach: Reach,
     bounds: Vec<u64>,
     tours: Tours,
+    shares: u64,
 }
 
 /// Takes a closed walk from a piece with as much as it may have, and gives that.
@@ -112,7 +116,7 @@ fn grow(
     if most == 0 || growth.streets.room(e) == 0 || growth.reach.is_spent() {
         return Ok(0);
     }
-    let share = growth.streets.limit(e).div_ceil(SHARES);
+    let share = growth.streets.limit(e).div_ceil(growth.shares.max(1));
     match walk_over(alloc, rows, &growth.streets, &mut growth.reach, street, e)? {
         None => Ok(0),
         Some(walk) => take(alloc, growth, street.p, walk.as_slice(), share.min(most)),
@@ -182,6 +186,19 @@ fn fill_each(
     Ok(())
 }
 
+/// Into how many parts what each of some edges may carry is to be cut, such that so many steps do for a walk with each part.
+fn shares(rows: &Grouped<u32>, streets: &Streets<'_>, starts: &[u32], steps: u64) -> u64 {
+    let mut looks = 0u64;
+    for e in starts {
+        if let Some(street) = streets.street(*e) {
+            looks = looks.saturating_add(row_of(rows, street.p).len() as u64);
+            looks = looks.saturating_add(row_of(rows, street.q).len() as u64);
+        }
+    }
+    let shares = steps / looks.saturating_mul(ROWS).max(1);
+    shares.max(1).min(MOST_SHARES)
+}
+
 /// What the walks are sought in: the trees of the pieces, the colours, and the broken edges where the bound can rise.
 #[derive(Drop)]
 struct Ground<'a> {
@@ -202,13 +219,16 @@ fn grown(
 ) -> Result<(Vec<Cycle>, Vec<u64>), NoMemory> {
     let trees = &ground.trees;
     let starts = ground.starts.as_slice();
+    let rows = rows_of(alloc, graph, trees, parts)?;
+    let streets = Streets::new(alloc, graph, trees, ground.colours, cycles)?;
+    let shares = shares(&rows, &streets, starts, steps);
     let mut growth = Growth {
-        streets: Streets::new(alloc, graph, trees, ground.colours, cycles)?,
+        streets,
         reach: Reach::new(alloc, trees.count, steps)?,
         bounds,
         tours: Tours::new(alloc, graph.edges.as_slice().len())?,
+        shares,
     };
-    let rows = rows_of(alloc, graph, trees, parts)?;
     fill_each(alloc, graph, &rows, parts, &mut growth, starts, &LOOKS)?;
     growth.reach.pass_any();
     fill_each(alloc, graph, &rows, parts, &mut growth, starts, &MORE_LOOKS)?;

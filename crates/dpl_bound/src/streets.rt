@@ -34,6 +34,7 @@ pub struct Streets<'a> {
     streets: Vec<Street>,
     loads: Vec<u64>,
     lengths: Vec<u64>,
+    least: u64,
     /// How often a walk passes each edge while it is looked at, and else 0.
     times: Vec<u64>,
 }
@@ -74,6 +75,17 @@ fn lengths_of(alloc: Global, edges: &[Edge], loads: &[u64]) -> Result<Vec<u64>, 
         lengths.push(length_of(limit_of(&edges[k]), number_at(loads, k)))?;
     }
     Ok(lengths)
+}
+
+/// The least of the lengths that are not 0. Lengths only grow.
+fn least_of(lengths: &[u64]) -> u64 {
+    let mut least = FULL;
+    for k in 0..lengths.len() {
+        if 0 < lengths[k] && lengths[k] < least {
+            least = lengths[k];
+        }
+    }
+    least
 }
 
 fn is_clash(edge: &Edge) -> bool {
@@ -135,12 +147,14 @@ impl<'a> Streets<'a> {
             );
         }
         let lengths = lengths_of(alloc, edges, loads.as_slice())?;
+        let least = least_of(lengths.as_slice());
         let streets = streets_of(alloc, edges, trees, colours)?;
         Ok(Streets {
             edges,
             streets,
             loads,
             lengths,
+            least,
             times: vec![in alloc; 0u64; edges.len()]?,
         })
     }
@@ -166,6 +180,11 @@ impl<'a> Streets<'a> {
     /// How long an edge is.
     pub fn length(&self, e: u32) -> u64 {
         number_at(self.lengths.as_slice(), e as usize)
+    }
+
+    /// No edge between two pieces is shorter.
+    pub fn least(&self) -> u64 {
+        self.least
     }
 
     /// What an edge may carry at most.

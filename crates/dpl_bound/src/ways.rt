@@ -54,9 +54,10 @@ pub fn rows_of(
     Ok(rows)
 }
 
-fn row_of(rows: &Grouped<u32>, piece: usize) -> &[u32] {
-    if piece < rows.len() {
-        rows.row(piece)
+/// The numbers of the edges at a piece.
+pub fn row_of(rows: &Grouped<u32>, piece: u32) -> &[u32] {
+    if (piece as usize) < rows.len() {
+        rows.row(piece as usize)
     } else {
         &[]
     }
@@ -129,6 +130,17 @@ impl Reach {
         }
     }
 
+    /// Whether a way to a place is known.
+    fn knows(&self, place: usize) -> bool {
+        place < self.places.len() && self.places[place].mark == self.mark
+    }
+
+    /// Whether a way to a place is known and none can be shorter, where all ways that are left are so long and go on over one
+    /// edge at least, none of which is shorter than the least.
+    fn is_settled(&self, place: usize, far: u64, least: u64) -> bool {
+        self.knows(place) && self.far(place) <= far.saturating_add(least)
+    }
+
     /// Notes how far a place is, if that is nearer than what is known.
     fn note(&mut self, place: usize, far: u64, via: u32) -> bool {
         let mark = self.mark;
@@ -153,7 +165,7 @@ fn spread(
     place: usize,
     left_out: u32,
 ) -> Result<(), NoMemory> {
-    let row = row_of(rows, place / 2);
+    let row = row_of(rows, (place / 2) as u32);
     let far = reach.far(place);
     reach.steps = reach.steps.saturating_sub(row.len() as u64 + 1);
     for e in row {
@@ -172,7 +184,8 @@ fn spread(
     Ok(())
 }
 
-/// Goes from one end of an edge over other edges to its other end, such that with it the clashes are odd in number.
+/// Goes from one end of an edge over other edges to its other end, such that with it the clashes are odd in number. Ends as
+/// soon as no way can be shorter than the known one.
 fn is_reached(
     alloc: Global,
     rows: &Grouped<u32>,
@@ -190,19 +203,20 @@ fn is_reached(
     }
     for _look in 0..reach.looks {
         let Some(Reverse((far, place))) = waiting.pop() else {
-            return Ok(false);
+            break;
         };
-        if place == end {
-            return Ok(true);
+        if reach.is_settled(end, far, streets.least()) {
+            break;
         }
         if reach.far(place) == far {
             spread(rows, streets, reach, &mut waiting, place, e)?;
         }
     }
-    Ok(false)
+    Ok(reach.knows(end))
 }
 
-/// The edges of a shortest odd walk over an edge that has room, if one is near: from its first piece back, and over the edge.
+/// The edges of a short odd walk over an edge that has room, if one is near, and of a shortest one where that is known before
+/// the looks end: from its first piece back, and over the edge.
 pub fn walk_over(
     alloc: Global,
     rows: &Grouped<u32>,
