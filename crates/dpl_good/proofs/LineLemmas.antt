@@ -5,15 +5,15 @@ use Rattle.std.proofs.Math.Path.{fun_ext}
 use Rattle.std.proofs.lemmas.List.Elements.{All-weaker}
 use Rattle.dpl_list.proofs.Integers.{signed}
 use Rattle.dpl_cell.specs.Places.{Corners, corners_of}
-use Rattle.dpl_cell.specs.Cells.{IsIn}
 use Rattle.dpl_cuts.specs.declared.types.Fragments.{Fragments}
 use Rattle.dpl_cuts.specs.Positions.{layer_of, rect_at, part_of, end_of}
 use Rattle.dpl_cuts.specs.Fragments.{IsCut}
 use Rattle.dpl_sign.specs.declared.edges.Kind.{Kind}
-use Rattle.dpl_sign.specs.declared.edges.Kind.TheVariants.{Clash}
+use Rattle.dpl_sign.specs.declared.edges.Kind.TheVariants.{Bond, Clash}
 use Rattle.dpl_sign.specs.declared.edges.Edge.{Edge}
 use Rattle.dpl_sign.specs.declared.nets.Net.{Net}
 use Rattle.dpl_sign.specs.Walks.{edge_at, no_edge}
+use Rattle.dpl_sign.specs.Kinds.{is_bond}
 use Rattle.dpl_sign.specs.Colourings.{agree, colour_of, is_broken}
 use Rattle.dpl_links.specs.Nets.{IsNet}
 use Rattle.dpl_links.specs.Spacing.{AreAllClashes}
@@ -93,3 +93,15 @@ lines_tell_close o cells tiles f net r ranges n c m =
     subst (λ (z : ℤ → ℤ → Bool). All (TellsClose z (2 * o.space) f r) r.lists.clashes) (fun_ext (λ x. fun_ext (λ y. c.drawn x y)))
     (All-weaker (NamesBroken net.graph r.head.colours Clash) (TellsClose (layer_of tiles) (2 * o.space) f r)
     (λ b k. line_tells tiles (2 * o.space) f net r b clashes ends m.own k) r.lists.clashes m.clashes.each)
+
+-- cells of two fragments that a bond joins
+pub bond_on_one_mask : (o : PlainOptions) (cells : ℤ → ℤ → Bool) (tiles : List Corners) (f : Fragments) (net : Net) (r : PlainReport)
+    → AreMasksOf o cells tiles f net r → (e : ℕ) (x y x' y' : ℤ) → e < length net.graph.edges → (edge_at net.graph e).kind ≡ Bond
+    → HoldsCell f (edge_at net.graph e).a x y → HoldsCell f (edge_at net.graph e).b x' y' → AreOnOneMask r x y x' y'
+bond_on_one_mask o cells tiles f net r m e x y x' y' within is first second =
+    let edge = edge_at net.graph e in
+    let same : colour_of r.head.colours edge.a ≡ colour_of r.head.colours edge.b =
+    m.colouring.bonds e no_edge within (ap is_bond is) in
+    one_mask r (colour_of r.head.colours edge.b) x y x' y'
+    (subst (λ (c : Bool). IsTrue (is_in_boxes (if c then r.on_b else r.on_a) x y)) same (m.own edge.a x y first))
+    (m.own edge.b x' y' second)

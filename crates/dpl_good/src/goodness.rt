@@ -1,5 +1,5 @@
 // What holds of reports that say the truth.
-ghost use Rattle.std.specs.Prelude.{◌≡◌, ◌↔◌, ◌≤◌, ◌<◌, ◌*◌, ◌&&◌, ℕ, ℤ, Bool, true, false, List, [], length, map, None, All, Any, IsTrue};
+ghost use Rattle.std.specs.Prelude.{◌≡◌, ◌↔◌, ◌≤◌, ◌<◌, ◌*◌, ◌&&◌, ℕ, ℤ, Bool, true, false, List, [], ◌++◌, codes, length, map, None, All, Any, IsTrue};
 ghost use Rattle.dpl_limits.specs.declared.TheConstants.{MOST_EDGES};
 ghost use Rattle.dpl_cell.specs.Places.{Corners, corners_of};
 ghost use Rattle.dpl_cell.specs.Cells.{IsIn};
@@ -10,13 +10,14 @@ ghost use Rattle.dpl_sign.specs.declared.edges.Kind.{Kind};
 ghost use Rattle.dpl_sign.specs.Walks.{edge_at};
 ghost use Rattle.dpl_sign.specs.Colourings.{breaks};
 ghost use Rattle.dpl_links.specs.Spacing.{AreTooClose};
-ghost use Rattle.dpl_boxes.specs.Drawings.{is_in_boxes};
+ghost use Rattle.dpl_boxes.specs.Drawings.{HasBoxes, is_in_boxes};
 ghost use Rattle.dpl_links.specs.Nets.{IsNet};
 ghost use Rattle.dpl_report.specs.Plain.{PlainReport, plain_report};
+ghost use Rattle.dpl_report.specs.ReportLines.{report_text};
 ghost use Rattle.dpl_report.specs.Valid.{IsReport};
 ghost use Rattle.dpl_good.specs.Truths.{SaysTrue};
 ghost use Rattle.dpl_good.specs.Verdicts.{refusal_of, IsGood};
-ghost use Rattle.dpl_good.specs.MaskCells.{AreCutFrom, AreMasksOf, AreOnOneMask, DrawSameMasks, JoinsPieces, ShowsZone, TellsClose};
+ghost use Rattle.dpl_good.specs.MaskCells.{AreCutFrom, AreMasksOf, AreOnOneMask, DrawSameMasks, HoldsCell, JoinsPieces, ShowsZone, TellsClose};
 ghost use Rattle.dpl_good.specs.Facts.{AreNineFacts};
 ghost use Rattle.dpl_cuts.specs.Fragments.{AreFragments};
 
@@ -119,6 +120,27 @@ pub fn lists_leave_nothing_out(options: &Options, fragments: &Fragments, net: &N
         (i : ℕ) × (j : ℕ) × IsIn (rect_at (map corners_of fragments.now.rects) i) x y ×
         IsIn (rect_at (map corners_of fragments.now.rects) j) x' y' ×
         Any (JoinsPieces net.now.pieces i j) r.lists.clashes }
+{
+    let _options = options;
+    let _net = net;
+    let _fragments = fragments;
+}
+
+/// A shape stays whole but for its cuts: cells of two fragments that a bond joins are on one mask. The text has the masks, the
+/// first on the layer whose name ends with A and the second on that with B.
+pub fn masks_are_whole(options: &Options, fragments: &Fragments, net: &Net)
+    ensures bonds { (cells : ℤ → ℤ → Bool) (tiles : List Corners) (r : PlainReport) →
+        AreMasksOf options.now cells tiles fragments.now net.now r →
+        (e : ℕ) (x y x' y' : ℤ) → e < length net.now.graph.edges →
+        (edge_at net.now.graph e).kind ≡ Kind.Bond →
+        HoldsCell fragments.now (edge_at net.now.graph e).a x y →
+        HoldsCell fragments.now (edge_at net.now.graph e).b x' y' → AreOnOneMask r x y x' y' }
+    ensures first { (cells : ℤ → ℤ → Bool) (tiles : List Corners) (r : PlainReport) →
+        AreMasksOf options.now cells tiles fragments.now net.now r →
+        HasBoxes (options.now.layer ++ codes "A") r.on_a (report_text r) }
+    ensures second { (cells : ℤ → ℤ → Bool) (tiles : List Corners) (r : PlainReport) →
+        AreMasksOf options.now cells tiles fragments.now net.now r →
+        HasBoxes (options.now.layer ++ codes "B") r.on_b (report_text r) }
 {
     let _options = options;
     let _net = net;

@@ -18,8 +18,8 @@ pub mod types;
 pub use clashes::broken_clashes;
 pub use goodness::{
     good_reports_are_true, letters_determine_masks, lines_show_what_is_broken,
-    lists_leave_nothing_out, masks_are_of_the_layer, nine_facts_make_good, true_reports_are_good,
-    true_reports_are_valid,
+    lists_leave_nothing_out, masks_are_of_the_layer, masks_are_whole, nine_facts_make_good,
+    true_reports_are_good, true_reports_are_valid,
 };
 pub use laws::condition_rules;
 pub use masking::{colour_at, masks};

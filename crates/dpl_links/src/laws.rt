@@ -11,6 +11,8 @@ ghost use Rattle.dpl_sign.specs.Redrawn.{IsMovedPort, IsMirroredPort, IsTranspos
 ghost use Rattle.dpl_cuts.specs.Fragments.{AreFragments};
 ghost use Rattle.dpl_cuts.specs.Images.{AreImages};
 ghost use Rattle.dpl_options.specs.Options.{PlainWeights};
+ghost use Rattle.dpl_links.specs.declared.linking.Link.{Link};
+ghost use Rattle.dpl_links.specs.Links.{IsUpTo};
 ghost use Rattle.dpl_links.specs.Ports.{IsPort, IsPortTo, LeavesAt};
 ghost use Rattle.dpl_links.specs.Nets.{IsNet, HasMoreEdges, tie_of};
 ghost use Rattle.dpl_links.specs.Spacing.{AreWithinShapes, AreAllClashes};
@@ -72,6 +74,16 @@ pub fn edges_have_weights(fragments: &Fragments)
 {
     let _fragments = fragments;
 }
+
+/// Of the links of two pieces that stands for their clash which is closer; at one gap one that faces, and not at corners;
+/// and then that of the smaller fragments, the first of the two before the second.
+pub fn links_stand_in_order()
+    ensures gap { (l m : Link) → IsUpTo l m → l.gap ≤ m.gap }
+    ensures facing { (l m : Link) → IsUpTo l m → l.gap ≡ m.gap → l.corner ≤ m.corner }
+    ensures first { (l m : Link) → IsUpTo l m → l.gap ≡ m.gap → l.corner ≡ m.corner → l.a ≤ m.a }
+    ensures second { (l m : Link) → IsUpTo l m → l.gap ≡ m.gap → l.corner ≡ m.corner →
+        l.a ≡ m.a → l.b ≤ m.b }
+{}
 
 /// Fragments that are moved have the same edges, weights and pieces, and the same ports with keys
 /// that are moved along their sides.

@@ -12,6 +12,8 @@ mod edit_words;
 #[cfg(test)]
 mod edits;
 #[cfg(test)]
+mod memory;
+#[cfg(test)]
 mod runs;
 #[cfg(test)]
 mod shelves;
