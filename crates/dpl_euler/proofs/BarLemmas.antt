@@ -76,7 +76,7 @@ ends_led net e h aside = (component_is net.graph (is_kept net) (edge_at net.grap
 -- ---- the face at its first corner
 
 -- all numbers of a cycle have one least number
-on_cycle : (n : ℕ) (f g : ℕ → ℕ) (start : ℕ) (cycle : List ℕ) → Permutes n f g → start < n
+pub on_cycle : (n : ℕ) (f g : ℕ → ℕ) (start : ℕ) (cycle : List ℕ) → Permutes n f g → start < n
     → IsCycleFrom f start cycle → (i : ℕ) → i < length cycle
     → (get_or cycle i 0 < n) × (least f n (get_or cycle i 0) ≡ least f n start)
 on_cycle n f g start cycle p h c zero l = (omega (arith, c.first, h), ap (least f n) c.first)

@@ -1,7 +1,7 @@
 -- The first edge that is set aside.
-use Rattle.std.proofs.Common.{arith, ◌≡◌, ℕ, zero, suc, ◌<◌, sym, ap, ◌∙◌, true, false, not, inl, inr, List, [], ◌∷◌}
+use Rattle.std.proofs.Common.{arith, ◌≡◌, ◌↔◌, ℕ, zero, suc, ◌<◌, refl, sym, ap, ◌∙◌, true, false, not, inl, inr, List, [], ◌∷◌}
 use Rattle.std.proofs.Common.{◌++◌, length, get_or, length-append, subst}
-use Rattle.std.proofs.lemmas.Bool.{cases_eq, cases_Bool, cond-true, cond-false}
+use Rattle.std.proofs.lemmas.Bool.{cases_eq, cases_order, cases_Bool, both_ways, cond-true, cond-false}
 use Rattle.std.proofs.lemmas.List.{get_or_append_left, get_or-append-add}
 use Rattle.dpl_sign.specs.declared.nets.Net.{Net}
 use Rattle.dpl_sign.specs.Excess.{is_aside, aside_before, aside_edges}
@@ -61,3 +61,32 @@ pub first_aside : (net : Net) → 0 < length (aside_edges net) → IsFirstAside 
 first_aside net h =
     let f = first_before net (length net.graph.edges) h in
     record { inside = f.inside; aside = f.aside; least = f.least }
+
+-- ---- the first of the list
+
+head_of : (xs : List ℕ) → 0 < length xs → (others : List ℕ) × (xs ≡ get_or xs 0 0 ∷ others)
+head_of [] l = absurd (omega (arith, l))
+head_of (x ∷ xs) l = (xs, refl)
+
+one_first : (net : Net) (d e : ℕ) → IsFirstAside net d → IsFirstAside net e → d ≡ e
+one_first net d e p q = elim (cases_order d e) [
+  | inl same ↦ same
+  | inr s ↦ elim s [
+    | inl l ↦ absurd (both_ways _ p.aside (q.least d l))
+    | inr l ↦ absurd (both_ways _ q.aside (p.least e l))
+  ]
+]
+
+pub listed_first : (net : Net) (e : ℕ) → IsFirstAside net e ↔ ((others : List ℕ) × (aside_edges net ≡ e ∷ others))
+listed_first net e = (
+  λ p.
+      let some : 0 < length (aside_edges net) = elim (cases_eq (length (aside_edges net)) 0) [
+        | inl none ↦ absurd (both_ways _ p.aside (none_before net (length net.graph.edges) none e p.inside))
+        | inr some ↦ omega (arith, some)
+      ] in
+      let (others, is) = head_of (aside_edges net) some in
+      (others, is ∙ ap (λ x. x ∷ others) (one_first net _ e (first_aside net some) p)),
+  λ (others, is).
+      let P : ℕ → Type 0 = λ z. IsFirstAside net z in
+      subst P (ap (λ (xs : List ℕ). get_or xs 0 0) is) (first_aside net (omega (arith, ap length is))),
+)

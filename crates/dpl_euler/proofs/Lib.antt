@@ -1,6 +1,7 @@
 pub mod CircleLemmas
 pub mod FirstLemmas
 pub mod BarLemmas
+pub mod MergeLemmas
 pub mod RowLemmas
 pub mod SearchLemmas
 pub mod SegmentLemmas

@@ -12,6 +12,7 @@
 mod bars;
 mod circling;
 mod crossings;
+mod laws;
 mod links;
 mod rows;
 mod searching;
@@ -21,4 +22,5 @@ pub mod types;
 
 pub use bars::{bar, drawn, excess_of};
 pub use crossings::crossing;
+pub use laws::{bars_merge_faces, first_aside_is_listed_first};
 pub use std::alloc::AllocError as NoMemory;

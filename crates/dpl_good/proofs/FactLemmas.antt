@@ -79,17 +79,18 @@ named_in g colours kind at xs ys a b n (k, x, l, e, p) =
     let names : NamesBroken g colours kind (at x) = subst (λ z. NamesBroken g colours kind (at z)) e (a.each k x l) in
     b.all n (subst (IsBrokenEdge g colours kind) p names.edge)
 
-same_names : (g : Signed) (colours : List Bool) (kind : Kind) (b c : Broken) → NamesBroken g colours kind b
+pub same_names : (g : Signed) (colours : List Bool) (kind : Kind) (b c : Broken) → NamesBroken g colours kind b
     → NamesBroken g colours kind c → b.edge ≡ c.edge → b ≡ c
 same_names g colours kind b c m n e =
     same_broken b c e (m.first ∙ ap (λ k. (edge_at g k).a) e ∙ sym n.first) (m.second ∙ ap (λ k. (edge_at g k).b) e ∙ sym n.second)
 
-same_clashes : (g : Signed) (colours : List Bool) (xs ys : List Broken)
-    → NameAllBroken g colours Clash (λ b. b) xs → NameAllBroken g colours Clash (λ b. b) ys → xs ≡ ys
-same_clashes g colours xs ys a b =
-    same_list (λ (c : Broken). c.edge) (NamesBroken g colours Clash) (NamesBroken g colours Clash)
-    (same_names g colours Clash) xs ys a.each b.each a.ordered b.ordered
-    (named_in g colours Clash (λ c. c) xs ys a b) (named_in g colours Clash (λ c. c) ys xs b a)
+-- two lists of the broken edges of a kind are the same
+pub same_lines : (g : Signed) (colours : List Bool) (kind : Kind) (xs ys : List Broken)
+    → NameAllBroken g colours kind (λ b. b) xs → NameAllBroken g colours kind (λ b. b) ys → xs ≡ ys
+same_lines g colours kind xs ys a b =
+    same_list (λ (c : Broken). c.edge) (NamesBroken g colours kind) (NamesBroken g colours kind)
+    (same_names g colours kind) xs ys a.each b.each a.ordered b.ordered
+    (named_in g colours kind (λ c. c) xs ys a b) (named_in g colours kind (λ c. c) ys xs b a)
 
 -- no two cuts have one first fragment
 one_cut : (cuts : List Cut) (k m : ℕ) (c d : Cut) → AllPairs (λ (c d : Cut). c.a < d.a) cuts → k < length cuts
@@ -171,7 +172,7 @@ aside_all net (suc n) e l t = elim (cases_lt e n) [
       subst (Contains (aside_before net (suc n))) same c
 ]
 
-own_aside : (net : Net) → NameAllAside net (aside_edges net)
+pub own_aside : (net : Net) → NameAllAside net (aside_edges net)
 own_aside net = record {
   each = aside_each net (length net.graph.edges);
   all = aside_all net (length net.graph.edges);
@@ -186,7 +187,7 @@ aside_in net xs ys a b n (k, e, l, f, p) =
     let (i, h, g) = b.all n (subst (λ m. m < length net.graph.edges) same own.0) (subst (λ m. is_aside net m ≡ true) same own.1) in
     (i, n, h, g, refl)
 
-same_aside : (net : Net) (xs ys : List ℕ) → NameAllAside net xs → NameAllAside net ys → xs ≡ ys
+pub same_aside : (net : Net) (xs ys : List ℕ) → NameAllAside net xs → NameAllAside net ys → xs ≡ ys
 same_aside net xs ys a b =
     same_list (λ (e : ℕ). e) (IsAsideBelow net (length net.graph.edges)) (IsAsideBelow net (length net.graph.edges))
     (λ x y p q e. e) xs ys a.each b.each a.ordered b.ordered (aside_in net xs ys a b) (aside_in net ys xs b a)
@@ -229,7 +230,7 @@ truth_of_facts o f net text r take order n = record {
       n.stitches (stitches_are_named net.graph r.head.colours f.cuts (cuts_from r.head.colours 0 net.graph.edges f.cuts)
       take refl (stitches_rise r.head.colours 0 net.graph.edges f.cuts)) n.zones
       (own_zones r.head.colours net.graph.edges f take);
-  clashes = same_clashes net.graph r.head.colours r.lists.clashes (clashes_from r.head.colours 0 net.graph.edges)
+  clashes = same_lines net.graph r.head.colours Clash r.lists.clashes (clashes_from r.head.colours 0 net.graph.edges)
       n.clashes (clashes_are_named net.graph r.head.colours (clashes_from r.head.colours 0 net.graph.edges) refl
       (clashes_rise r.head.colours 0 net.graph.edges));
   cost = n.cost;

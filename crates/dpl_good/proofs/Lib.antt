@@ -10,7 +10,9 @@ pub mod BrokenLemmas
 pub mod MaskCellLemmas
 pub mod SameMaskLemmas
 pub mod LineLemmas
+pub mod HolderLemmas
 pub mod FactLemmas
 pub mod ConditionLaws
 pub mod FirstWrong
 pub mod RefusalLemmas
+pub mod LetterLemmas

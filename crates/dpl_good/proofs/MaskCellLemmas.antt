@@ -241,7 +241,7 @@ zone_is_on : (o : PlainOptions) (tiles : List Corners) (f : Fragments) (net : Ne
     → is_in_boxes (mask_boxes r on_b) x y ≡ true
 zone_is_on o tiles f net r on_b x y k h = ap (λ bs. is_in_boxes bs x y) (boxes_are o f net r on_b k.truth) ∙ zone_on_mask on_b f r.head.colours x y h
 
-in_layer : (tiles : List Corners) (rects : List Rect) (i : ℕ) (x y : ℤ)
+pub in_layer : (tiles : List Corners) (rects : List Rect) (i : ℕ) (x y : ℤ)
     → HoldLayer tiles (map corners_of rects) → i < length rects → IsIn (rect_at (map corners_of rects) i) x y
     → IsTrue (layer_of tiles x y)
 in_layer tiles rects i x y h l g =
@@ -318,7 +318,7 @@ masks_together o tiles f net r k x y = both_ways (is_in_boxes r.on_a x y || is_i
 
 -- ---- overlap
 
-never_both : (rects : List Corners) (i j : ℕ) (x y : ℤ) → AllPairs AreApart rects → i < j → j < length rects
+pub never_both : (rects : List Corners) (i j : ℕ) (x y : ℤ) → AllPairs AreApart rects → i < j → j < length rects
     → IsIn (rect_at rects i) x y → IsIn (rect_at rects j) x y → ⊥
 never_both rects i j x y a l m f g = a i j nowhere l m (record { x = x; y = y; first = f; second = g })
 

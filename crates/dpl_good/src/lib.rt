@@ -21,7 +21,9 @@ pub use goodness::{
     lists_leave_nothing_out, masks_are_of_the_layer, masks_are_whole, nine_facts_make_good,
     true_reports_are_good, true_reports_are_valid,
 };
-pub use laws::condition_rules;
+pub use laws::{
+    condition_rules, letters_break_edges, lists_are_one, one_fragment_holds_a_cell, one_refusal,
+};
 pub use masking::{colour_at, masks};
 pub use refusals::{Miss, Refusal};
 pub use std::alloc::AllocError as NoMemory;

@@ -3,3 +3,4 @@ pub mod PairLemmas
 pub mod MarkLemmas
 pub mod StayLemmas
 pub mod KeepLemmas
+pub mod SightLemmas

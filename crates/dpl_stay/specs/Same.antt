@@ -18,7 +18,7 @@ abbrev pub ports_at : Net → ℕ → Port × Port
 ports_at net e = slice_index_or net.ports e (no_port, no_port)
 
 -- an edge of one net and an edge of another lead between the same two rectangles, with one kind, weight and ports
-pub record AreAlike (f g : List Rect) (n m : Net) (e d : ℕ) : Type 0 where
+pub record AreEdgesAlike (f g : List Rect) (n m : Net) (e d : ℕ) : Type 0 where
   pub first : corners_at f (edge_at n.graph e).a ≡ corners_at g (edge_at m.graph d).a
   pub second : corners_at f (edge_at n.graph e).b ≡ corners_at g (edge_at m.graph d).b
   pub kind : (edge_at n.graph e).kind ≡ (edge_at m.graph d).kind
@@ -38,5 +38,5 @@ IsEdgeOf n v e = (e < length n.graph.edges) × (are_one_component n v (edge_at n
 pub record AreSame (f g : List Rect) (n m : Net) (v w : ℕ) : Type 0 where
   pub nodes : (x : ℕ) → IsNodeOf n v x → (y : ℕ) × IsNodeOf m w y × (corners_at f x ≡ corners_at g y)
   pub nodes_back : (y : ℕ) → IsNodeOf m w y → (x : ℕ) × IsNodeOf n v x × (corners_at f x ≡ corners_at g y)
-  pub edges : (e : ℕ) → IsEdgeOf n v e → (d : ℕ) × IsEdgeOf m w d × AreAlike f g n m e d
-  pub edges_back : (d : ℕ) → IsEdgeOf m w d → (e : ℕ) × IsEdgeOf n v e × AreAlike f g n m e d
+  pub edges : (e : ℕ) → IsEdgeOf n v e → (d : ℕ) × IsEdgeOf m w d × AreEdgesAlike f g n m e d
+  pub edges_back : (d : ℕ) → IsEdgeOf m w d → (e : ℕ) × IsEdgeOf n v e × AreEdgesAlike f g n m e d
