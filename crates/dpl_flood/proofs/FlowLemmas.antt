@@ -6,14 +6,15 @@ use Rattle.std.proofs.lemmas.List.{get_or-set_other, length-set}
 use Rattle.std.proofs.lemmas.Grind.{get_or-set_at}
 use Rattle.dpl_laminar.specs.Storing.{sets_of}
 use Rattle.dpl_dual.specs.declared.crosses.Dual.{Dual}
-use Rattle.dpl_pack.specs.Points.{Point, total_at}
+use Rattle.dpl_pack.specs.Points.{Point, water, on, total_at}
+use Rattle.dpl_pack.proofs.PointLemmas.{on_water}
 use Rattle.dpl_flood.specs.declared.state.State.{State}
 use Rattle.dpl_flood.specs.Dues.{IsWithin, IsAtRest, HasRoom}
 use Rattle.dpl_flood.specs.Holdings.{stack_of}
 use Rattle.dpl_flood.specs.Queues.{never}
 use Rattle.dpl_flood.specs.Seas.{Sea, IsSeaDue, IsTopDue, IsTopTime, IsEvent, AreRenewed, AreNow, Shifts, noted_at, sides_of, tide_of, span_of}
-use Rattle.dpl_flood.specs.States.{sea_of, IsState, AreKeys, AreKeyedAround, top_keys, fall_of}
-use Rattle.dpl_flood.proofs.EventLemmas.{event_kept, shift_due}
+use Rattle.dpl_flood.specs.States.{sea_of, IsState, IsTaken, IsLeft, AreKeys, AreKeyedAround, top_keys, fall_of}
+use Rattle.dpl_flood.proofs.EventLemmas.{event_kept, shift_due, take_shifts, leave_shifts}
 use Rattle.dpl_flood.proofs.LookLemmas.{around_either, around_looked}
 use Rattle.dpl_flood.proofs.PopLemmas.{span_told}
 use Rattle.dpl_flood.proofs.SeaLemmas.{now_kept}
@@ -48,6 +49,23 @@ shifted_keys d x y h p old new sx sy shifts is around keys =
           ])
           (λ k l. inl (sym (ap (λ (s : Sea). s.loss k) is) ∙ l, behind k));
     }
+
+-- where a face is taken
+pub taken_keys : (d : Dual) (x y : State) (face : ℕ) (old new : List ℕ) → IsState d x → IsState d y → IsTaken d x y face
+    → AreKeyedAround d (sea_of y) face old new → AreKeys d x old → AreKeys d y new
+taken_keys d x y face old new sx sy taken = shifted_keys d x y face (on taken.member taken.far) old new sx sy
+    (take_shifts d x.seats (sea_of x) face taken.member taken.far sx.sea taken.takes) taken.sea
+
+-- where one is left
+pub left_keys : (d : Dual) (x y : State) (set face : ℕ) (old new : List ℕ) → IsState d x → IsState d y → IsLeft x y set face
+    → AreKeyedAround d (sea_of y) face old new → AreKeys d x old → AreKeys d y new
+left_keys d x y set face old new sx sy left = shifted_keys d x y face water old new sx sy
+    (leave_shifts d x.seats (sea_of x) face left.member left.far sx.sea left.leaves) left.sea
+
+-- which is a face
+pub left_face : (d : Dual) (x y : State) (set face : ℕ) → IsState d x → IsLeft x y set face → face < d.faces
+left_face d x y set face st left =
+    (st.sea.flood.home face (λ e. on_water left.member left.far (sym left.leaves.held ∙ e))).0
 
 -- The keys stay right where the sea is the same.
 pub same_keys : (d : Dual) (x y : State) (keys : List ℕ) → sea_of y ≡ sea_of x → AreKeys d x keys → AreKeys d y keys
