@@ -91,6 +91,8 @@ def texts() -> Iterator[tuple[str, bytes]]:
     yield "1,000,001 calls of nothing, refused", tenfold(6, "", "C 6;" * 9 + "C 1;" * 2)
     yield "2^31 calls, refused", doubling(31)
     yield "16 MB of calls, refused", filled(b"C1;", b"DS 1;L M;B 2 2 0 0;DF;")
+    yield "one wire of 4,194,000 points, refused", ("L M;W2" + " 0 0" * 4_194_000 + ";E").encode()
+    yield "one polygon of 4,194,000 points, refused", ("L M;P" + " 0 0" * 4_194_000 + ";E").encode()
     yield "100,000 contacts, refused", layout(contacts(100_000, 300))
     yield "100,000 tiles of crossing wires", layout(hundred_thousand_tiles())
     yield "100,001 tiles, refused", layout([*hundred_thousand_tiles(), (1000, 0, 1010, 10)])
@@ -133,6 +135,15 @@ def stairs_polygon(n: int) -> Corners:
     steps = n // 4
     yield from (point for i in range(steps) for point in ((10 * i, 10 * i), (10 * i + 10, 10 * i)))
     yield from (point for i in reversed(range(steps)) for point in ((10 * i + 10, 10 * i + 30), (10 * i, 10 * i + 30)))
+
+
+def columns_polygon(n: int, columns: int) -> Corners:
+    """One polygon of n corners whose upright sides stand at random in so few columns, where many of them cover the same rows."""
+    source, half = random.Random(5), n // 2
+    rows = source.sample(range(half), half)
+    for i in range(half):
+        x = 20 * source.randrange(columns)
+        yield from ((x, 2 * rows[i - 1]), (x, 2 * rows[i]))
 
 
 def crossing(side: int) -> Boxes:
@@ -409,11 +420,30 @@ def laid_over(n: int) -> Boxes:
         yield (x1, 10 * i, x2, 10 * i + 10)
 
 
+def kept(boxes: Iterable[Box], sticks: Iterable[Box]) -> bytes:
+    """The text of a layout with these boxes on a keep layer."""
+    text = layout(boxes).decode()
+    return text.replace("DF;", "L K;" + "".join(box(*corners) for corners in sticks) + "DF;").encode()
+
+
 def covered(boxes: Iterable[Box], n: int) -> bytes:
     """The text of a layout with n boxes on a keep layer, none of which touches it."""
-    text = layout(boxes).decode()
-    kept = "".join(box(40 * i, -4000, 40 * i + 10, -3000) for i in range(n))
-    return text.replace("DF;", "L K;" + kept + "DF;").encode()
+    return kept(boxes, ((40 * i, -4000, 40 * i + 10, -3000) for i in range(n)))
+
+
+def kept_along(n: int) -> bytes:
+    """n level wires, each kept along its middle, with so much of each end left that none is cut."""
+    return kept(((0, 300 * i, 30 * n, 300 * i + 40) for i in range(n)),
+                ((10, 300 * i + 10, 30 * n - 10, 300 * i + 20) for i in range(n)))
+
+
+def kept_across(n: int, shift: int = 0) -> bytes:
+    """n level wires under n kept sticks, each of which lies over all wires, or over all but up to so many at either end. No
+    wire has room for a cut between two sticks."""
+    source, shift = random.Random(5), 300 * shift
+    return kept(((0, 300 * i, 30 * n, 300 * i + 40) for i in range(n)),
+                ((30 * i, 2 * source.randint(0, shift // 2) - 100, 30 * i + 20, 300 * n - 2 * source.randint(0, shift // 2))
+                 for i in range(n)))
 
 
 def layouts() -> Iterator[tuple[str, int, Callable[[int], Boxes]]]:
@@ -446,6 +476,10 @@ def single() -> Iterator[tuple[str, bytes, list[str]]]:
     yield "3,000 random boxes, many close: 1,138 odd faces", layout(random_boxes(3_000, 50)), OPTIONS
     yield "contacts, none close, no keep layer", contacts_far, OPTIONS
     yield "the same with 50,000 keep tiles", covered(contacts(40_000, 300), 50_000), [*OPTIONS, "--keep", "K"]
+    yield "25,000 wires kept along their middles", kept_along(25_000), [*OPTIONS, "--keep", "K"]
+    for n in (2_000, 4_000):
+        yield f"{n:,} wires under as many kept sticks", kept_across(n), [*OPTIONS, "--keep", "K"]
+    yield "the same, but for up to 1,000 wires at either end", kept_across(4_000, 1_000), [*OPTIONS, "--keep", "K"]
     yield "contacts at space 10,000, refused", contacts_far, WIDE
     yield "random boxes at space 10,000, refused", layout(random_boxes(40_000)), WIDE
     yield "hanging comb at space 100,000, n = 24500", layout(hanging_comb(24_500)), WIDEST
@@ -524,6 +558,7 @@ def polygons() -> Iterator[tuple[str, int, Callable[[int], Corners]]]:
     """Each with the smaller of its two numbers of corners."""
     yield "a comb as one polygon", 24_000, comb_polygon
     yield "stairs as one polygon", 24_000, stairs_polygon
+    yield "sides in eight columns as one polygon", 12_000, lambda n: columns_polygon(n, 8)
 
 
 # ---- edits; corners are in grid units of half a hundredth
@@ -600,14 +635,14 @@ def report(name: str, size: int, run: Run, times: str = "") -> None:
           flush=True)
 
 
-def check_spaces(asked: argparse.Namespace, size: int) -> Run:
-    """A check of a report of so many spaces."""
+def check_spaces(asked: argparse.Namespace, size: int, text: bytes = b"E") -> Run:
+    """A check of a report of so many spaces against a layout, an empty one where none is given."""
     with tempfile.NamedTemporaryFile() as second:
         for _ in range(size >> 20):
             second.write(b" " * (1 << 20))
         second.write(b" " * (size % (1 << 20)))
         second.flush()
-        return least(asked, ["check", *OPTIONS, "--report", second.name], b"E")
+        return least(asked, ["check", *OPTIONS, "--report", second.name], text)
 
 
 def time_layer(asked: argparse.Namespace, name: str, text: bytes, options: list[str]) -> None:
@@ -681,6 +716,8 @@ def main() -> None:
     for name, size in (("a report of 268 MB of spaces", MOST_REPORT), ("one more space, refused", MOST_REPORT + 1)):
         if asked.only in name:
             report(name, size, check_spaces(asked, size))
+    if asked.only in (name := "the greatest report, 16 MB of empty commands"):
+        report(name, MOST_REPORT, check_spaces(asked, MOST_REPORT, filled(b";")))
     for name, size, boxes in layouts():
         if asked.only in name:
             pair(asked, name, size, lambda n: layout(boxes(n)))
