@@ -103,6 +103,34 @@ fn two_polygons_joined_by_a_box(rt: HostRuntime) -> Result<(), Fail> {
     compare(&rt, rt.alloc(), &boxes, &[&corner, &square], &want)
 }
 
+#[test]
+fn sides_that_cover_rows_of_a_column_twice(rt: HostRuntime) -> Result<(), Fail> {
+    let inside = [
+        (0, 0),
+        (4, 0),
+        (4, 9),
+        (8, 9),
+        (8, 2),
+        (4, 2),
+        (4, 7),
+        (0, 7),
+    ];
+    let want = [(0, 0, 4, 2), (0, 2, 8, 7), (4, 7, 8, 9)];
+    compare(&rt, rt.alloc(), &[], &[&inside], &want)?;
+    let one_end = [
+        (4, 0),
+        (4, 9),
+        (8, 9),
+        (8, 0),
+        (4, 0),
+        (4, 5),
+        (0, 5),
+        (0, 0),
+    ];
+    let want = [(0, 0, 8, 5), (4, 5, 8, 9)];
+    compare(&rt, rt.alloc(), &[], &[&one_end], &want)
+}
+
 /// How many tiles there are, or why there are none.
 fn counted(alloc: Global, prims: Vec<Prim>) -> Result<usize, LimitError> {
     let prims = Items::new(prims);

@@ -22,3 +22,4 @@ pub mod EndLemmas
 pub mod CornerLemmas
 pub mod PassLemmas
 pub mod ClusterLemmas
+pub mod CancelLemmas

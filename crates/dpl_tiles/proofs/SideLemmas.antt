@@ -9,7 +9,7 @@ use Rattle.dpl_cell.specs.declared.point.Point.{Point}
 use Rattle.dpl_cell.specs.Places.{place_of}
 use Rattle.dpl_cell.specs.Layers.{is_within, is_left_side, left_sides, is_in_polygon}
 use Rattle.dpl_tiles.specs.declared.side.Side.{Side}
-use Rattle.dpl_tiles.specs.Sides.{AreSidesOf, IsSideOf, sides_of, standing, stands, is_between, at_or_left}
+use Rattle.dpl_tiles.specs.Sides.{AreAllSidesOf, AreSidesOf, IsSideOf, sides_of, standing, stands, is_between, at_or_left}
 
 -- 1 for true
 abbrev pub bit : Bool → ℕ
@@ -63,7 +63,7 @@ round_more first rest i before p s sides new r within is side e = rw e (record {
 
 pub round_end : (first : Point) (rest : List Point) (i : ℕ) (before : Point) (s : Side) (sides new : List Side)
     → length rest ≤ i → Round first rest i before sides → IsSideOf (place_of before) (place_of first) s
-    → new ≡ sides ++ s ∷ [] → AreSidesOf (map place_of (first ∷ rest)) new
+    → new ≡ sides ++ s ∷ [] → AreAllSidesOf (map place_of (first ∷ rest)) new
 round_end first rest i before s sides new whole r side e =
     λ x y. rw e (omega (arith, stood x y (place_of before) (place_of first) s sides side, last_side x y, r.each x y))
   where
@@ -72,7 +72,7 @@ round_end first rest i before s sides new whole r side e =
 
 -- the cells of a polygon lie between its sides
 pub polygon_between : (points : List (ℤ × ℤ)) (sides : List Side) (x y : ℤ) → AreSidesOf points sides → is_between sides x y ≡ is_in_polygon points x y
-polygon_between points sides x y are = ap (λ n. n % 2 == 1) (are x y) ∙ by_sides points where
+polygon_between points sides x y are = ap (λ n. n == 1) (are x y) ∙ by_sides points where
   by_sides : (points : List (ℤ × ℤ)) → (sides_of x y points % 2 == 1) ≡ is_in_polygon points x y
   by_sides [] = refl
   by_sides (p ∷ ps) = refl

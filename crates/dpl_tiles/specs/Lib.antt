@@ -10,3 +10,4 @@ pub mod Windows
 pub mod Sweeps
 pub mod Corners
 pub mod Clusters
+pub mod Ends

@@ -34,9 +34,13 @@ standing x y sides = sum_by (λ s. if stands x y s then 1 else 0) sides
 abbrev pub is_between : List Side → ℤ → ℤ → Bool
 is_between sides x y = standing x y sides % 2 == 1
 
--- the sides of a polygon: as many of them span each row at or left of each column
+-- all sides of a polygon: as many of them span each row at or left of each column
+abbrev pub AreAllSidesOf : List (ℤ × ℤ) → List Side → Type 0
+AreAllSidesOf points sides = (x y : ℤ) → standing x y sides ≡ sides_of x y points
+
+-- sides between which the cells of a polygon lie: an odd number of them spans a row at or left of a column where of its own sides does
 abbrev pub AreSidesOf : List (ℤ × ℤ) → List Side → Type 0
-AreSidesOf points sides = (x y : ℤ) → standing x y sides ≡ sides_of x y points
+AreSidesOf points sides = (x y : ℤ) → standing x y sides % 2 ≡ sides_of x y points % 2
 
 -- the sides of a primitive, where it is a polygon
 abbrev pub AreSides : Primitive → List Side → Type 0

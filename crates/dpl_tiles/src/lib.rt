@@ -7,9 +7,11 @@
 
 mod band;
 mod bounds;
+mod cancelling;
 mod columns;
 mod corners;
 mod crossing;
+mod end;
 mod finder;
 mod gathering;
 mod laws;

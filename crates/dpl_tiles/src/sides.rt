@@ -2,8 +2,9 @@
 ghost use Rattle.std.specs.Prelude.{◌≡◌, ◌<◌, length, All, IfOk, map, ◌∷◌};
 ghost use Rattle.dpl_cell.specs.Places.{place_of};
 ghost use Rattle.dpl_cell.specs.Layers.{is_within};
-ghost use Rattle.dpl_tiles.specs.Sides.{AreColumnsAmong, AreSidesOf, IsSideOf, bounds_of_side};
+ghost use Rattle.dpl_tiles.specs.Sides.{AreAllSidesOf, AreColumnsAmong, IsSideOf, bounds_of_side};
 
+use crate::cancelling::cancelled;
 use crate::columns::{Columns, row_within};
 use crate::side::Side;
 use dpl_cell::Point;
@@ -35,11 +36,12 @@ impl Sides {
     ghost use Rattle.dpl_cell.specs.Places.{place_of};
     ghost use Rattle.dpl_tiles.specs.Sides.{AreCrossingsWithin, AreSidesOf};
 
-    /// The sides of a polygon. It takes about n log n steps for n corners.
+    /// The sides of a polygon, without those that cover the same rows of a column. It takes about n log n steps for n corners.
     pub fn new(alloc: Global, points: &[Point]) -> Result<Sides, AllocError>
         ensures { IfOk result (λ sides. AreSidesOf (map place_of points.now) sides) }
     {
-        let all = sides_along(alloc, points)?;
+        let drawn = sides_along(alloc, points)?;
+        let all = cancelled(alloc, drawn.as_slice())?;
         let bounds = all_bounds(alloc, all.as_slice())?;
         let index = Index::new(alloc, bounds)?;
         Ok(Sides { all, index })
@@ -57,7 +59,7 @@ impl Sides {
 }
 
 fn sides_along(alloc: Global, points: &[Point]) -> Result<Vec<Side>, AllocError>
-    ensures { IfOk result (λ v. AreSidesOf (map place_of points.now) v.items) }
+    ensures { IfOk result (λ v. AreAllSidesOf (map place_of points.now) v.items) }
 {
     match points.split_first() {
         None => Ok(Vec::new(alloc)),
@@ -67,7 +69,7 @@ fn sides_along(alloc: Global, points: &[Point]) -> Result<Vec<Side>, AllocError>
 
 /// The sides of a polygon, from its first corner through the others and back.
 fn sides_from(alloc: Global, first: &Point, rest: &[Point]) -> Result<Vec<Side>, AllocError>
-    ensures { IfOk result (λ v. AreSidesOf (map place_of (first.now ∷ rest.now)) v.items) }
+    ensures { IfOk result (λ v. AreAllSidesOf (map place_of (first.now ∷ rest.now)) v.items) }
 {
     let mut sides = Vec::new(alloc);
     let mut before = *first;
