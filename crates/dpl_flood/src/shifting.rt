@@ -39,13 +39,7 @@ pub fn reach(
 }
 
 /// A top that falls leaves its last face, and the keys around that face are set anew. The key of the top is early now.
-pub fn retreat(
-    state: &mut State,
-    dual: &Dual,
-    steps: &Grouped<Step>,
-    queue: &mut Queue,
-    set: u32,
-)
+pub fn retreat(state: &mut State, dual: &Dual, steps: &Grouped<Step>, queue: &mut Queue, set: u32)
     requires state { IsState dual.now state.old }
     requires keys { AreKeys dual.now state.old queue.old }
     requires steps { steps.now ≡ step_rows dual.now.crosses dual.now.faces }
