@@ -9,7 +9,7 @@ use Rattle.dpl_cell.specs.declared.layout.Primitive.{Primitive}
 use Rattle.dpl_cell.specs.declared.layout.Primitive.TheVariants as prim
 use Rattle.dpl_cell.specs.Places.{place_of, corners_of}
 use Rattle.dpl_cell.specs.Outlines.{Outline, outline_of}
-use Rattle.dpl_cell.specs.Outlines.Outline as outline
+use Rattle.dpl_cell.specs.Outlines as outline
 use Rattle.dpl_calls.specs.declared.figure.Corner.{Corner}
 use Rattle.dpl_calls.specs.declared.figure.Figure.{Figure}
 use Rattle.dpl_calls.specs.declared.figure.Figure.TheVariants.{Rectangle, Polygon}
