@@ -1,6 +1,10 @@
 // How many primitives a content has.
-ghost use Rattle.std.specs.Prelude.{◌≡◌, ◌+◌};
+ghost use Rattle.std.specs.Prelude.{◌≡◌, ◌+◌, ℕ, List};
 ghost use Rattle.dpl_calls.specs.Totals.{shown};
+ghost use Rattle.dpl_cif.specs.Reading.{primitive_count};
+ghost use Rattle.dpl_options.specs.Options.{PlainOptions};
+ghost use Rattle.dpl_layer.specs.declared.drawing.Drawing.{Drawing};
+ghost use Rattle.dpl_layer.specs.Drawings.{IsDrawingOf};
 ghost use Rattle.dpl_edit.specs.Contents.{weight_of, prim_count};
 
 use dpl_cell::Prim;
@@ -34,3 +38,10 @@ pub fn weigh(prims: &[Prim]) -> u64
     }
     sum
 }
+
+/// A session counts as many primitives of what a text draws as the reader that drew it. It is a fact about the
+/// definitions; nothing runs.
+pub fn sessions_count_as_readers()
+    ensures { (o : PlainOptions) (text : List ℕ) (d : Drawing) → IsDrawingOf o text d →
+        prim_count d.layer.prims ≡ primitive_count o.layer text }
+{}

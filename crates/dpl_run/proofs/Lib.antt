@@ -14,3 +14,4 @@ pub mod SteadyLemmas
 pub mod AbsentLemmas
 pub mod RangeLemmas
 pub mod SomeLemmas
+pub mod OrderLemmas

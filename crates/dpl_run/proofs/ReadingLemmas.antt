@@ -64,10 +64,10 @@ small_second (Some o) texts bytes second read told small =
     subst (λ (z : List ℕ). length z ≤ most_of o.counted)
     (sym (same_second (Some o) texts bytes second read told o refl)) small
 
-abbrev report_named : List ℕ → Opened
+abbrev pub report_named : List ℕ → Opened
 report_named name = record { name = name; counted = ReportBytes }
 
-abbrev script_named : List ℕ → Opened
+abbrev pub script_named : List ℕ → Opened
 script_named name = record { name = name; counted = ScriptBytes }
 
 -- texts within their limits refuse nothing
@@ -84,13 +84,13 @@ bytes_free c text second short small =
           omega (arith, few, many)
 
 -- a layout that is too long is refused
-long_layout : (c : PlainCommand) (text second : List ℕ) → reads_layout c ≡ true → 16777216 < length text → IsDueFor c text second (Limit 1 16777217) []
+pub long_layout : (c : PlainCommand) (text second : List ℕ) → reads_layout c ≡ true → 16777216 < length text → IsDueFor c text second (Limit 1 16777217) []
 long_layout c text second r long = too_long (passed LayoutBytes)
     (first (IsPassed LayoutBytes ((reads_layout c ≡ true) × (16777216 < length text))) (IsOpenedLong (opens c) second ∷ [])
     (passed LayoutBytes) ((r, long), refl))
 
 -- and so is a text that is opened
-long_second : (c : PlainCommand) (text second : List ℕ) (o : Opened) → opens c ≡ Some o
+pub long_second : (c : PlainCommand) (text second : List ℕ) (o : Opened) → opens c ≡ Some o
     → IsShort (reads_layout c) text → most_of o.counted < length second
     → IsDueFor c text second (Limit (number_of o.counted) (most_of o.counted + 1)) []
 long_second c text second o is short long = too_long (passed o.counted)

@@ -1,19 +1,28 @@
 //! What the words of the contract of `run` mean, said without them: no proof guards a definition but these.
-ghost use Rattle.std.specs.Prelude.{◌≡◌, ◌≢◌, ◌⊎◌, ◌↔◌, ℕ, ℤ, ◌+◌, ◌<◌, ◌≤◌, true, List, [], ◌∷◌, ◌++◌, Option, Some, Result, Ok, Err};
-ghost use Rattle.dpl_limits.specs.declared.TheConstants.{MOST_LAYOUT_BYTES};
+ghost use Rattle.std.specs.Prelude.{◌≡◌, ◌≢◌, ◌⊎◌, ◌↔◌, ℕ, ℤ, ◌+◌, ◌<◌, ◌≤◌, true, List, [], ◌∷◌, ◌++◌, length, Option, Some, Result, Ok, Err};
+ghost use Rattle.dpl_limits.specs.declared.TheConstants.{MOST_LAYOUT_BYTES, MOST_REPORT_BYTES, MOST_SCRIPT_BYTES};
 ghost use Rattle.dpl_cell.specs.Places.{Corners};
 ghost use Rattle.dpl_cell.specs.Layers.{is_within, is_in_box};
 ghost use Rattle.dpl_cell.specs.Cells.{IsWithin, IsIn};
 ghost use Rattle.dpl_ext.specs.Device.{Seen, Texts, last_count};
 ghost use Rattle.dpl_options.specs.Options.{PlainOptions};
-ghost use Rattle.dpl_core.specs.Reports.{IsSplit, IsBalancedSplit, IsRefinedSplit};
+ghost use Rattle.dpl_report.specs.Plain.{PlainReport};
+ghost use Rattle.dpl_layer.specs.declared.error.LayerError.{LayerError};
+ghost use Rattle.dpl_layer.specs.declared.drawing.Drawing.{Drawing};
+ghost use Rattle.dpl_layer.specs.Drawings.{Cells, IsDrawingOf, drawing_reasons};
+ghost use Rattle.dpl_layer.specs.Reasons.{FirstOf, NoneOf};
+ghost use Rattle.dpl_core.specs.Reports.{IsReportOfCells, IsSplit, IsBalancedSplit, IsRefinedSplit};
 ghost use Rattle.dpl_check.specs.Checked.{IsAcceptedOf};
 ghost use Rattle.dpl_words.specs.Commands.{PlainCommand, split, check, load, cross, edit, balance, refine, asked_by};
+ghost use Rattle.dpl_words.specs.Scripts.{IsFirstBad};
+ghost use Rattle.dpl_run.specs.Inputs.{reads_layout};
 ghost use Rattle.dpl_run.specs.Answer.{Answers, IsDue, IsDueOf, IsQuiet, IsStatusOf};
 ghost use Rattle.dpl_run.specs.Devices.{AreSteady, AreTold, AsksFor, IsReadFault, IsTouched, PassesBytes};
 ghost use Rattle.dpl_run.specs.Deciding.{GoByCells};
-ghost use Rattle.dpl_run.specs.Lines.{yes_line};
-ghost use Rattle.dpl_run.specs.due.Edit.{IsEditDue, IsFollowed};
+ghost use Rattle.dpl_run.specs.Errors.{status_of};
+ghost use Rattle.dpl_run.specs.Lines.{load_line, yes_line};
+ghost use Rattle.dpl_run.specs.due.Edit.{IsEditDue, IsFollowed, begun_with, edits_reasons};
+ghost use Rattle.dpl_run.specs.due.Load.{loaded_line};
 ghost use Rattle.dpl_run.specs.declared.status.Status.{Status};
 ghost use Rattle.dpl_run.specs.declared.status.Status.TheVariants.{Done, Rejected, Usage, Limit, Script, NoMemory, ReadFault, WriteFault};
 
@@ -104,6 +113,36 @@ pub fn yes_is_accepted()
 pub fn scripts_are_followed()
     ensures { (o : PlainOptions) (text script output : List ℕ) →
         IsEditDue o text script Done output ↔ IsFollowed o text script output }
+{}
+
+/// What is told first: that the layout is too long, that the text beside it is, that the layout has no drawing or its content
+/// no report, and then that a line of the script is not of the form. Each is due whatever is told after it.
+pub fn refusals_are_in_order()
+    ensures layout { (c : PlainCommand) (text second : List ℕ) → reads_layout c ≡ true →
+        MOST_LAYOUT_BYTES < length text →
+        IsDueOf (Ok c) text second (Limit 1 (MOST_LAYOUT_BYTES + 1)) [] }
+    ensures report { (o : PlainOptions) (name text second : List ℕ) →
+        length text ≤ MOST_LAYOUT_BYTES → MOST_REPORT_BYTES < length second →
+        IsDueOf (Ok (check o name)) text second (Limit 9 (MOST_REPORT_BYTES + 1)) [] }
+    ensures script { (o : PlainOptions) (name text second : List ℕ) →
+        length text ≤ MOST_LAYOUT_BYTES → MOST_SCRIPT_BYTES < length second →
+        IsDueOf (Ok (edit o name)) text second (Limit 10 (MOST_SCRIPT_BYTES + 1)) [] }
+    ensures drawing { (o : PlainOptions) (text script : List ℕ) (e : LayerError) →
+        FirstOf (drawing_reasons o text) e → IsEditDue o text script (status_of e) [] }
+    ensures content { (o : PlainOptions) (text script : List ℕ) (d : Drawing) (e : LayerError) →
+        IsDrawingOf o text d → FirstOf (edits_reasons (begun_with o d)) e →
+        IsEditDue o text script (status_of e) [] }
+    ensures line { (o : PlainOptions) (text script : List ℕ) (d : Drawing) (line : ℕ) →
+        IsDrawingOf o text d → NoneOf (edits_reasons (begun_with o d)) → IsFirstBad script line →
+        IsEditDue o text script (Script line 1) [] }
+{}
+
+/// `load` tells how many nodes the net of its layout has, and how many edges, of whatever kind.
+pub fn loads_tell_the_net()
+    ensures { (o : PlainOptions) (r : PlainReport) (cells kept : Cells)
+        (of : IsReportOfCells o r cells kept) →
+        loaded_line r ≡ load_line of.net.graph.nodes (length of.net.graph.edges) r.head.cost
+        r.head.bound (length r.lists.aside) }
 {}
 
 /// What a sink took that tells it: all that is due with a status, a front of that where a write
