@@ -4,3 +4,4 @@ pub mod OrderLemmas
 pub mod KeepLemmas
 pub mod RecallLemmas
 pub mod SessionLemmas
+pub mod MaskLemmas

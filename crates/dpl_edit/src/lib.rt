@@ -9,6 +9,7 @@
 mod contents;
 mod editing;
 mod errors;
+mod laws;
 mod placed;
 mod recalling;
 mod sessions;
@@ -16,5 +17,6 @@ mod solved;
 mod weighing;
 
 pub use errors::{EditError, RemoveError};
+pub use laws::masks_are_kept;
 pub use placed::Placed;
 pub use sessions::Session;
