@@ -5,3 +5,4 @@ pub mod KeepLemmas
 pub mod RecallLemmas
 pub mod SessionLemmas
 pub mod CountLemmas
+pub mod MaskLemmas

@@ -10,6 +10,7 @@
 mod contents;
 mod editing;
 mod errors;
+mod laws;
 mod placed;
 mod recalling;
 mod sessions;
@@ -17,6 +18,7 @@ mod solved;
 mod weighing;
 
 pub use errors::{EditError, RemoveError};
+pub use laws::masks_are_kept;
 pub use placed::Placed;
 pub use sessions::Session;
 pub use weighing::sessions_count_as_readers;

@@ -1,9 +1,17 @@
 //! What the words of the contract of `run` mean, said without them: no proof guards a definition but these.
-ghost use Rattle.std.specs.Prelude.{◌≡◌, ◌≢◌, ◌⊎◌, ◌↔◌, ℕ, ℤ, ◌+◌, ◌<◌, ◌≤◌, true, List, [], ◌∷◌, ◌++◌, length, Option, Some, Result, Ok, Err};
+ghost use Rattle.std.specs.Prelude.{◌≡◌, ◌≢◌, ◌⊎◌, ◌↔◌, ℕ, ℤ, ◌+◌, ◌<◌, ◌≤◌, true, List, [], ◌∷◌, ◌++◌, length, Option, None, Some, Result, Ok, Err};
 ghost use Rattle.dpl_limits.specs.declared.TheConstants.{MOST_LAYOUT_BYTES, MOST_REPORT_BYTES, MOST_SCRIPT_BYTES};
 ghost use Rattle.dpl_cell.specs.Places.{Corners};
 ghost use Rattle.dpl_cell.specs.Layers.{is_within, is_in_box};
 ghost use Rattle.dpl_cell.specs.Cells.{IsWithin, IsIn};
+ghost use Rattle.dpl_cuts.specs.declared.types.Fragments.{Fragments};
+ghost use Rattle.dpl_sign.specs.declared.nets.Net.{Net};
+ghost use Rattle.dpl_sign.specs.Excess.{excess, all_edges, aside_edges};
+ghost use Rattle.dpl_euler.specs.declared.types.Bar.{Bar};
+ghost use Rattle.dpl_euler.specs.declared.types.Crossing.{Crossing};
+ghost use Rattle.dpl_euler.specs.declared.types.With.{With};
+ghost use Rattle.dpl_euler.specs.Bars.{IsBar};
+ghost use Rattle.dpl_euler.specs.Crossings.{IsWith};
 ghost use Rattle.dpl_ext.specs.Device.{Seen, Texts, last_count};
 ghost use Rattle.dpl_options.specs.Options.{PlainOptions};
 ghost use Rattle.dpl_report.specs.Plain.{PlainReport};
@@ -21,6 +29,7 @@ ghost use Rattle.dpl_run.specs.Devices.{AreSteady, AreTold, AsksFor, IsReadFault
 ghost use Rattle.dpl_run.specs.Deciding.{GoByCells};
 ghost use Rattle.dpl_run.specs.Errors.{status_of};
 ghost use Rattle.dpl_run.specs.Lines.{load_line, yes_line};
+ghost use Rattle.dpl_run.specs.due.Cross.{ShowsBar, ShowsCrossing};
 ghost use Rattle.dpl_run.specs.due.Edit.{IsEditDue, IsFollowed, begun_with, edits_reasons};
 ghost use Rattle.dpl_run.specs.due.Load.{loaded_line};
 ghost use Rattle.dpl_run.specs.declared.status.Status.{Status};
@@ -106,6 +115,19 @@ pub fn yes_is_accepted()
         (now : Option (List ℕ)) → asked_by words ≡ Ok (check o name) →
         Answers (IsDue words text report) (Some taken) now Done → (cost : ℕ) × (bound : ℕ) ×
         (now ≡ Some (taken ++ yes_line cost bound)) × IsAcceptedOf o text report cost bound }
+{}
+
+/// `cross` shows an edge and what its link crosses, and says that there is none only where no link
+/// of an edge crosses anything. It shows a bar of the first edge that is set aside, and says that
+/// there is none exactly where the whole drawing is plane.
+pub fn crossings_are_shown()
+    ensures crossing { (f : Fragments) (net : Net) (c : Crossing) → ShowsCrossing f net (Some c) ↔
+        ((c.edge < length net.graph.edges) × IsWith f net c.edge c.other) }
+    ensures no_crossing { (f : Fragments) (net : Net) → ShowsCrossing f net None ↔
+        ((e : ℕ) (other : With) → e < length net.graph.edges → ¬ IsWith f net e other) }
+    ensures bar { (net : Net) (bar : Bar) → ShowsBar net (Some bar) ↔
+        (((others : List ℕ) × (aside_edges net ≡ bar.edge ∷ others)) × IsBar net bar) }
+    ensures no_bar { (net : Net) → ShowsBar net None ↔ (excess net all_edges ≡ 0) }
 {}
 
 /// `edit` is done exactly where all lines of the script are taken, with the text of a report of the
