@@ -1,13 +1,14 @@
 -- The lists of a family after a top is taken away.
 use Rattle.std.proofs.Common.{arith, ◌≡◌, ◌≢◌, ℕ, ◌+◌, ◌-◌, ◌*◌, ◌%◌, ◌<◌, ◌≤◌, refl, sym, ap, ◌∙◌, subst, true, false}
-use Rattle.std.proofs.Common.{cond, inl, inr, List, [], length, get_or, set, length-set, get_or-set_same}
+use Rattle.std.proofs.Common.{Bool, cond, inl, inr, List, [], length, get_or, set, length-set, get_or-set_same}
 use Rattle.std.proofs.Common.{get_or-set_other, Option, Some, None}
 use Rattle.std.proofs.lemmas.Bool.{cases_eq, cases_lt, cases_Bool, cond-true, cond-false}
 use Rattle.std.proofs.lemmas.List.{get_or_past}
 use Rattle.std.proofs.lemmas.Option.{same_Some}
 use Rattle.dpl_laminar.specs.Families.{Sets, IsTie, has}
 use Rattle.dpl_laminar.specs.Changes.{IsExpanded}
-use Rattle.dpl_laminar.specs.Storing.{Stored, sets_of, walk, IsKept, IsCircle}
+use Rattle.dpl_laminar.specs.Storing.{Stored, sets_of, walk, stretch_of, IsKept, IsCircle}
+use Rattle.dpl_laminar.proofs.Sums.{sum_same, sum_zero}
 use Rattle.dpl_laminar.proofs.Numbers.{has_at, place_in, true_false, some_none}
 use Rattle.dpl_laminar.proofs.Walks.{walk_same, length_walk}
 use Rattle.dpl_laminar.proofs.Lifting.{AreLifted}
@@ -57,10 +58,10 @@ pub record AreCleared (s : Stored) (r : ℕ) (ps : List (Option ℕ)) (rg : List
   pub alone : (c : ℕ) → has ((sets_of s).children r) c ≡ true → get_or rg c 0 ≡ c
   pub ring_others : (c : ℕ) → has ((sets_of s).children r) c ≡ false → get_or rg c 0 ≡ get_or s.ring c 0
   pub tops_length : length ts ≡ length s.tops
-  pub tops : AreLifted (length s.tops) (sets_of s).holds ((sets_of s).children r) s.tops ts
+  pub tops : AreLifted (sets_of s).holds ((sets_of s).children r) s.tops ts
 
 abbrev pub without_set : Stored → ℕ → List (Option ℕ) → List ℕ → List ℕ → Stored
-without_set s r ps rg ts = record s { live = set s.live r false; rows = set s.rows r []; parents = ps; counts = set s.counts r 0; ring = rg; tops = ts }
+without_set s r ps rg ts = record s { live = set s.live r false; sizes = set s.sizes r 0; parents = ps; counts = set s.counts r 0; ring = rg; tops = ts }
 
 -- a child of another set is no child of this one
 not_kid : (s : Stored) (r d c : ℕ) → IsKept s → r < 2 * s.size → d < 2 * s.size → d ≢ r
@@ -84,6 +85,13 @@ children_left s r ps rg ts p hr w i ne =
     ] in
     ap (λ z. walk after first z) count ∙ moved
 
+-- stretches stay as they are
+stretch_left : (s : Stored) (r i : ℕ) → i ≢ r → stretch_of s.onwards s.heads (set s.sizes r 0) i ≡ stretch_of s.onwards s.heads s.sizes i
+stretch_left s r i ne = ap (walk (λ c. get_or s.onwards c 0) (get_or s.heads i 0)) (get_or-set_other s.sizes r i 0 0 ne)
+
+stretch_none : (s : Stored) (r : ℕ) → IsKept s → r < 2 * s.size → stretch_of s.onwards s.heads (set s.sizes r 0) r ≡ []
+stretch_none s r p below = ap (walk (λ c. get_or s.onwards c 0) (get_or s.heads r 0)) (get_or-set_same s.sizes r 0 0 (omega (arith, p.sizes_length)))
+
 pub expanded : (s : Stored) (r : ℕ) (ps : List (Option ℕ)) (rg : List ℕ) (ts : List ℕ) → IsKept s → s.size ≤ r
     → get_or s.live r false ≡ true → get_or s.parents r None ≡ None → AreCleared s r ps rg ts
     → IsExpanded (sets_of s) r (sets_of (without_set s r ps rg ts))
@@ -91,21 +99,20 @@ expanded s r ps rg ts p least live top w =
     let f : Sets = sets_of s in
     let below : r < 2 * s.size = live_below s r p live in
     let lam = p.family.laminar in
-    let here : (m : ℕ) → m < s.size → m < length s.tops = λ m h. omega (arith, p.tops_length) in
     record {
       size = refl;
       value = λ i. refl;
       sets = record {
         live_set = get_or-set_same s.live r false false (omega (arith, p.live_length));
         live_others = λ i ne. get_or-set_other s.live r i false false ne;
-        holds_set = λ m h. ap (λ z. get_or z m false) (get_or-set_same s.rows r [] [] (omega (arith, p.rows_length)));
-        holds_others = λ i m hi ne h. ap (λ z. get_or z m false) (get_or-set_other s.rows r i [] [] ne);
+        holds_set = λ m h. ap (λ z. has z m) (stretch_none s r p below);
+        holds_others = λ i m hi ne h. ap (λ z. has z m) (stretch_left s r i ne);
         parent_child = λ i h. w.parents i ∙ cond-true (has (f.children r) i) _ _ h;
         parent_others = λ i h. w.parents i ∙ cond-false (has (f.children r) i) _ _ h;
         children_set = ap (λ z. walk (λ c. get_or rg c 0) (get_or s.firsts r 0) z) (get_or-set_same s.counts r 0 0 (omega (arith, p.counts_length)));
         children_others = children_left s r ps rg ts p below w;
-        top_inside = λ c m h k l. w.tops.inside c m (here m h) k l;
-        top_others = λ m h ne. w.tops.outside m (here m h) (λ c k. elim (cases_Bool (f.holds c m)) [
+        top_inside = λ c m h k l. w.tops.inside c m k l;
+        top_others = λ m h ne. w.tops.outside m (λ c k. elim (cases_Bool (f.holds c m)) [
           | inl t ↦ absurd (ne (lam.tops.top_alone r m below h top (lam.children.child_holds r c m below h k t)))
           | inr t ↦ t
         ]);
@@ -141,11 +148,18 @@ expanded_kept s r ps rg ts p least live top none w t =
     let g : Sets = sets_of (without_set s r ps rg ts) in
     let below : r < 2 * s.size = live_below s r p live in
     let still : (i m : ℕ) → i ≢ r → f.holds i m ≡ true → g.holds i m ≡ true =
-    λ i m ne h. ap (λ z. get_or z m false) (get_or-set_other s.rows r i [] [] ne) ∙ h in
+    λ i m ne h. ap (λ z. has z m) (stretch_left s r i ne) ∙ h in
+    let was : (i : ℕ) → i ≢ r → g.live i ≡ true → f.live i ≡ true = λ i ne l. sym (t.sets.live_others i ne) ∙ l in
+    let size_none : get_or (set s.sizes r 0) r 0 ≡ 0 = get_or-set_same s.sizes r 0 0 (omega (arith, p.sizes_length)) in
+    let size_left : (i : ℕ) → i ≢ r → get_or (set s.sizes r 0) i 0 ≡ get_or s.sizes i 0 = λ i ne. get_or-set_other s.sizes r i 0 0 ne in
+    let gone : (i : ℕ) → i ≡ r → g.live i ≡ true → ⊥ = λ i e l. true_false (g.live i) l (ap g.live e ∙ t.sets.live_set) in
     let inner : (c d : ℕ) → f.parent c ≡ Some d → c ≢ r = λ c d e z. some_none (f.parent c) d e (ap f.parent z ∙ top) in
     record {
       live_length = length-set s.live r false ∙ p.live_length;
-      rows_length = length-set s.rows r [] ∙ p.rows_length;
+      heads_length = p.heads_length;
+      tails_length = p.tails_length;
+      sizes_length = length-set s.sizes r 0 ∙ p.sizes_length;
+      onwards_length = p.onwards_length;
       values_length = p.values_length;
       parents_length = w.parents_length ∙ p.parents_length;
       firsts_length = p.firsts_length;
@@ -153,9 +167,33 @@ expanded_kept s r ps rg ts p least live top none w t =
       ring_length = w.ring_length ∙ p.ring_length;
       joins_length = p.joins_length;
       tops_length = w.tops_length ∙ p.tops_length;
-      row_dead = λ i dead. elim (cases_eq i r) [
-        | inl e ↦ ap (λ z. get_or (set s.rows r []) z []) e ∙ get_or-set_same s.rows r [] [] (omega (arith, p.rows_length))
-        | inr ne ↦ get_or-set_other s.rows r i [] [] ne ∙ p.row_dead i (sym (t.sets.live_others i ne) ∙ dead)
+      size_dead = λ i dead. elim (cases_eq i r) [
+        | inl e ↦ ap (λ z. get_or (set s.sizes r 0) z 0) e ∙ size_none
+        | inr ne ↦ size_left i ne ∙ p.size_dead i (sym (t.sets.live_others i ne) ∙ dead)
+      ];
+      within = λ i b h. elim (cases_eq i r) [
+        | inl e ↦ absurd (omega (arith, h, ap (λ z. get_or (set s.sizes r 0) z 0) e, size_none))
+        | inr ne ↦ omega (arith, ap (λ z. get_or z b 0) (stretch_left s r i ne), p.within i b (omega (arith, h, size_left i ne)))
+      ];
+      counted = λ i. elim (cases_eq i r) [
+        | inl e ↦
+            ap (λ z. get_or (set s.sizes r 0) z 0) e ∙ size_none ∙
+            sym (sum_same s.size _ (λ m. 0) (λ m hm. ap (λ (z : Bool). cond {A = ℕ} z 1 0) (ap (λ z. g.holds z m) e ∙ t.sets.holds_set m hm)) ∙ sum_zero s.size)
+        | inr ne ↦ size_left i ne ∙ p.counted i ∙
+            sum_same s.size _ _ (λ m hm. ap (λ (z : Bool). cond {A = ℕ} z 1 0) (sym (ap (λ z. has z m) (stretch_left s r i ne))))
+      ];
+      tail = λ i b l e. elim (cases_eq i r) [
+        | inl is ↦ absurd (gone i is l)
+        | inr ne ↦ ap (λ z. get_or z b 0) (stretch_left s r i ne) ∙ p.tail i b (was i ne l) (e ∙ size_left i ne)
+      ];
+      inner = λ i k b l lk sub h e. elim (cases_eq i r) [
+        | inl is ↦ gone i is l
+        | inr ne ↦ (elim (cases_eq k r) as (λ _. ⊥) [
+          | inl ks ↦ gone k ks lk
+          | inr nk ↦ p.inner i k b (was i ne l) (was k nk lk)
+              (λ m hm im. sym (ap (λ z. has z m) (stretch_left s r k nk)) ∙ sub m hm (ap (λ z. has z m) (stretch_left s r i ne) ∙ im))
+              (omega (arith, h, size_left i ne)) (sym (ap (λ z. get_or z b 0) (stretch_left s r i ne)) ∙ e)
+        ])
       ];
       family = record {
         small = p.family.small;

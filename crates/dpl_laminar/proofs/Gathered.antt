@@ -3,6 +3,8 @@ use Rattle.std.proofs.Common.{arith, ◌≡◌, ◌≢◌, ℕ, suc, ◌+◌, �
 use Rattle.std.proofs.Common.{inl, inr, eqb, List, [], ◌∷◌, length, get_or, Some, None, eq-eqb}
 use Rattle.std.proofs.lemmas.Bool.{cases_eq, cases_Bool, ne_eqb}
 use Rattle.std.proofs.lemmas.Option.{same_Some}
+use Rattle.std.specs.List.{sum_by}
+use Rattle.std.proofs.lemmas.List.Sums.{sum_by-cons}
 use Rattle.dpl_laminar.specs.Loads.{size_of}
 use Rattle.dpl_laminar.specs.Families.{Sets, IsLaminar, has}
 use Rattle.dpl_laminar.specs.Changes.{AreTops, Gathers}
@@ -41,6 +43,26 @@ size_gathered n top (c ∷ cs) apart odd =
     let whole : size_of n (λ m. has (c ∷ cs) (top m)) ≡ size_of n (λ m. eqb c (top m)) + size_of n (λ m. has cs (top m)) =
     sum_same n _ _ (λ m h. one_more c cs (top m) new) ∙ sum_added n (λ m. bit (eqb c (top m))) (λ m. bit (has cs (top m))) in
     omega (arith, whole, rest, odd c (has_head c c cs refl))
+
+-- the same with the sizes themselves
+pub sizes_gathered : (n : ℕ) (top size : ℕ → ℕ) (cs : List ℕ)
+    → ((i j : ℕ) → i < j → j < length cs → get_or cs i 0 ≢ get_or cs j 0)
+    → ((c : ℕ) → has cs c ≡ true → size c ≡ size_of n (λ m. eqb c (top m)))
+    → sum_by size cs ≡ size_of n (λ m. has cs (top m))
+sizes_gathered n top size [] apart e = sym (sum_zero n)
+sizes_gathered n top size (c ∷ cs) apart e =
+    let new : has cs c ≡ false = elim (cases_Bool (has cs c)) [
+      | inl t ↦ let r = place_in cs c t in absurd (apart 0 (suc r.0) (omega arith) (omega (arith, r.1)) (sym r.2))
+      | inr f ↦ f
+    ] in
+    let rest : sum_by size cs ≡ size_of n (λ m. has cs (top m)) =
+    sizes_gathered n top size cs (λ i j h k. apart (suc i) (suc j) (omega arith) (omega arith)) (λ d h. e d (elim (cases_eq c d) [
+      | inl z ↦ has_head c d cs z
+      | inr ne ↦ has_tail c d cs ne ∙ h
+    ])) in
+    let whole : size_of n (λ m. has (c ∷ cs) (top m)) ≡ size_of n (λ m. eqb c (top m)) + size_of n (λ m. has cs (top m)) =
+    sum_same n _ _ (λ m h. one_more c cs (top m) new) ∙ sum_added n (λ m. bit (eqb c (top m))) (λ m. bit (has cs (top m))) in
+    omega (arith, whole, rest, e c (has_head c c cs refl), sum_by-cons size c cs)
 
 -- ---- a new set of tops
 

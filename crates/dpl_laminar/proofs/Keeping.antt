@@ -1,24 +1,29 @@
 -- The lists of a family after each of its calls.
 use Rattle.std.proofs.Common.{arith, ◌≡◌, ◌≢◌, ℕ, ◌*◌, ◌<◌, ◌≤◌, ◌^◌, refl, sym, ap, ◌∙◌, subst, true, false, inl, inr}
-use Rattle.std.proofs.Common.{eqb, ltb, List, Bool, Option, [], length, get_or, set, length-set, get_or-set_same, get_or-set_other, None}
+use Rattle.std.proofs.Common.{eqb, eq-eqb, cond, ltb, List, Bool, Option, [], ◌∷◌, length, get_or, set, length-set, get_or-set_same, get_or-set_other, None}
 use Rattle.std.specs.Prelude.{replicate}
 use Rattle.std.proofs.lemmas.Bool.{cases_eq, cases_lt, ne_eqb, lt-ltb}
 use Rattle.std.proofs.lemmas.List.{get_or_past, get_or_read, length-replicate}
-use Rattle.dpl_laminar.specs.Families.{Sets, IsLaminar, IsTie}
+use Rattle.dpl_laminar.specs.Families.{Sets, IsLaminar, IsTie, has}
+use Rattle.dpl_laminar.specs.Loads.{size_of}
+use Rattle.dpl_laminar.proofs.Sums.{sum_same, sum_at, sum_zero}
 use Rattle.dpl_laminar.specs.Changes.{IsSingles, IsNext}
-use Rattle.dpl_laminar.specs.Storing.{Stored, sets_of, walk, IsKept}
-use Rattle.dpl_laminar.proofs.Numbers.{true_false, cases_Option}
+use Rattle.dpl_laminar.specs.Storing.{Stored, sets_of, walk, stretch_of, IsKept}
+use Rattle.dpl_laminar.proofs.Numbers.{true_false, cases_Option, has_head, has_tail}
 use Rattle.dpl_laminar.proofs.Singles.{singles_family}
 use Rattle.dpl_list.proofs.Lists.{repeated}
 
 -- lists that keep sets
-abbrev pub stored : (size : ℕ) (live : List Bool) (rows : List (List Bool)) (values : List ℕ)
+abbrev pub stored : (size : ℕ) (live : List Bool) (heads tails sizes onwards values : List ℕ)
     → (parents : List (Option ℕ)) (firsts counts ring : List ℕ) (joins : List (ℕ × ℕ)) → (tops : List ℕ)
     → Stored
-stored size live rows values parents firsts counts ring joins tops = record {
+stored size live heads tails sizes onwards values parents firsts counts ring joins tops = record {
   size = size;
   live = live;
-  rows = rows;
+  heads = heads;
+  tails = tails;
+  sizes = sizes;
+  onwards = onwards;
   values = values;
   parents = parents;
   firsts = firsts;
@@ -49,9 +54,14 @@ count_read s i x p h e = get_or_read s.counts i x (omega (arith, live_below s i 
 pub record AreStart (s : Stored) : Type 0 where
   pub live_length : length s.live ≡ 2 * s.size
   pub live : (k : ℕ) → k < 2 * s.size → get_or s.live k false ≡ ltb k s.size
-  pub rows_length : length s.rows ≡ 2 * s.size
-  pub row_single : (i m : ℕ) → i < s.size → m < s.size → get_or (get_or s.rows i []) m false ≡ eqb i m
-  pub row_none : (i : ℕ) → s.size ≤ i → get_or s.rows i [] ≡ []
+  pub heads_length : length s.heads ≡ 2 * s.size
+  pub heads : (k : ℕ) → k < 2 * s.size → get_or s.heads k 0 ≡ k
+  pub tails_length : length s.tails ≡ 2 * s.size
+  pub tails : (k : ℕ) → k < 2 * s.size → get_or s.tails k 0 ≡ k
+  pub sizes_length : length s.sizes ≡ 2 * s.size
+  pub ones : (k : ℕ) → k < s.size → get_or s.sizes k 0 ≡ 1
+  pub none : (k : ℕ) → s.size ≤ k → get_or s.sizes k 0 ≡ 0
+  pub onwards_length : length s.onwards ≡ s.size
   pub values : s.values ≡ replicate (2 * s.size) 0
   pub parents : s.parents ≡ replicate (2 * s.size) None
   pub firsts : s.firsts ≡ replicate (2 * s.size) 0
@@ -62,13 +72,39 @@ pub record AreStart (s : Stored) : Type 0 where
   pub tops_length : length s.tops ≡ s.size
   pub tops : (m : ℕ) → m < s.size → get_or s.tops m 0 ≡ m
 
+-- the stretch of a single member, and of a number without a set
+start_one : (s : Stored) (i : ℕ) → AreStart s → i < s.size → stretch_of s.onwards s.heads s.sizes i ≡ i ∷ []
+start_one s i p h =
+    let after : ℕ → ℕ = λ c. get_or s.onwards c 0 in
+    ap (walk after (get_or s.heads i 0)) (p.ones i h) ∙ ap (λ z. z ∷ []) (p.heads i (omega arith))
+
+start_empty : (s : Stored) (i : ℕ) → AreStart s → s.size ≤ i → stretch_of s.onwards s.heads s.sizes i ≡ []
+start_empty s i p h = ap (walk (λ c. get_or s.onwards c 0) (get_or s.heads i 0)) (p.none i h)
+
+has_one : (i m : ℕ) → has (i ∷ []) m ≡ eqb i m
+has_one i m = elim (cases_eq i m) [
+  | inl e ↦ has_head i m [] e ∙ sym (eq-eqb i m e)
+  | inr ne ↦ has_tail i m [] ne ∙ sym (ne_eqb i m ne)
+]
+
+start_holds : (s : Stored) (i m : ℕ) → AreStart s → i < s.size → (sets_of s).holds i m ≡ eqb i m
+start_holds s i m p h = ap (λ z. has z m) (start_one s i p h) ∙ has_one i m
+
+start_counted : (s : Stored) (i : ℕ) → AreStart s → get_or s.sizes i 0 ≡ size_of s.size ((sets_of s).holds i)
+start_counted s i p =
+    let bit : Bool → ℕ = λ z. cond z 1 0 in
+    elim (cases_lt i s.size) [
+      | inl lt ↦ p.ones i lt ∙ sym (sum_same s.size _ (λ m. cond (eqb i m) 1 0) (λ m k. ap bit (start_holds s i m p lt)) ∙ sum_at s.size i (λ _. 1) lt)
+      | inr le ↦ p.none i le ∙ sym (sum_same s.size _ (λ m. 0) (λ m k. ap bit (ap (λ z. has z m) (start_empty s i p le))) ∙ sum_zero s.size)
+    ]
+
 pub start_singles : (s : Stored) → AreStart s → IsSingles s.size (sets_of s)
 start_singles s p = record {
   size = refl;
   live = p.live;
   holds = λ i m hi hm. elim (cases_lt i s.size) [
-    | inl lt ↦ p.row_single i m lt hm
-    | inr le ↦ ap (λ z. get_or z m false) (p.row_none i le) ∙ sym (ne_eqb i m (λ e. omega arith))
+    | inl lt ↦ start_holds s i m p lt
+    | inr le ↦ ap (λ z. has z m) (start_empty s i p le) ∙ sym (ne_eqb i m (λ e. omega arith))
   ];
   value = λ i. ap (λ z. get_or z i 0) p.values ∙ repeated (2 * s.size) i 0;
   parent = λ i. ap (λ z. get_or z i None) p.parents ∙ repeated (2 * s.size) i None;
@@ -80,7 +116,10 @@ start_singles s p = record {
 pub start_kept : (s : Stored) → AreStart s → s.size ≤ 2048 → IsKept s
 start_kept s p small = record {
   live_length = p.live_length;
-  rows_length = p.rows_length;
+  heads_length = p.heads_length;
+  tails_length = p.tails_length;
+  sizes_length = p.sizes_length;
+  onwards_length = p.onwards_length;
   values_length = ap length p.values ∙ length-replicate _ _;
   parents_length = ap length p.parents ∙ length-replicate _ _;
   firsts_length = ap length p.firsts ∙ length-replicate _ _;
@@ -88,9 +127,30 @@ start_kept s p small = record {
   ring_length = p.ring_length;
   joins_length = ap length p.joins ∙ length-replicate _ _;
   tops_length = p.tops_length;
-  row_dead = λ i dead. elim (cases_lt i s.size) [
+  size_dead = λ i dead. elim (cases_lt i s.size) [
     | inl lt ↦ true_false (get_or s.live i false) (p.live i (omega arith) ∙ lt-ltb i s.size lt) dead
-    | inr le ↦ p.row_none i le
+    | inr le ↦ p.none i le
+  ];
+  within = λ i j h. elim (cases_lt i s.size) [
+    | inl lt ↦ omega (
+      arith,
+      h,
+      p.ones i lt,
+      p.onwards_length,
+      ap (λ z. get_or z j 0) (start_one s i p lt),
+      ap (λ z. get_or (i ∷ []) z 0) (let z : j ≡ 0 = omega (arith, h, p.ones i lt) in z),
+    )
+    | inr le ↦ absurd (omega (arith, h, p.none i le))
+  ];
+  counted = λ i. start_counted s i p;
+  tail = λ i j l e. elim (cases_lt i s.size) [
+    | inl lt ↦ ap (λ z. get_or z j 0) (start_one s i p lt) ∙
+        ap (λ z. get_or (i ∷ []) z 0) (let z : j ≡ 0 = omega (arith, e, p.ones i lt) in z) ∙ sym (p.tails i (omega arith))
+    | inr le ↦ absurd (omega (arith, e, p.none i le))
+  ];
+  inner = λ i k j l lk sub h. elim (cases_lt i s.size) [
+    | inl lt ↦ absurd (omega (arith, h, p.ones i lt))
+    | inr le ↦ absurd (omega (arith, h, p.none i le))
   ];
   family = singles_family (sets_of s) (start_singles s p) small;
 }
@@ -137,7 +197,10 @@ raised_kept s i v p live small =
     let f = p.family in
     record {
       live_length = p.live_length;
-      rows_length = p.rows_length;
+      heads_length = p.heads_length;
+      tails_length = p.tails_length;
+      sizes_length = p.sizes_length;
+      onwards_length = p.onwards_length;
       values_length = length-set s.values i v ∙ p.values_length;
       parents_length = p.parents_length;
       firsts_length = p.firsts_length;
@@ -145,7 +208,11 @@ raised_kept s i v p live small =
       ring_length = p.ring_length;
       joins_length = p.joins_length;
       tops_length = p.tops_length;
-      row_dead = p.row_dead;
+      size_dead = p.size_dead;
+      within = p.within;
+      counted = p.counted;
+      tail = p.tail;
+      inner = p.inner;
       family = record {
         small = f.small;
         laminar = laminar_revalued s.size (sets_of s) (λ j. get_or (set s.values i v) j 0) f.laminar;

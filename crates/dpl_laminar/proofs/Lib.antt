@@ -3,6 +3,7 @@ mod Expanding
 mod Gathered
 pub mod Keeping
 mod Lifting
+mod Linked
 pub mod Numbers
 pub mod Reached
 pub mod Released

@@ -6,35 +6,35 @@ use Rattle.std.proofs.lemmas.List.Folds.{list_any_kept}
 use Rattle.dpl_laminar.specs.Families.{has}
 use Rattle.dpl_laminar.proofs.Numbers.{has_at, has_taken, taken_has, taken_of, not_taken}
 
-pub record AreLifted (size : ℕ) (table : ℕ → ℕ → Bool) (some : List ℕ) (old tops : List ℕ) : Type 0 where
-  pub inside : (c m : ℕ) → m < size → has some c ≡ true → table c m ≡ true → get_or tops m 0 ≡ c
-  pub outside : (m : ℕ) → m < size → ((c : ℕ) → has some c ≡ true → table c m ≡ false) → get_or tops m 0 ≡ get_or old m 0
+pub record AreLifted (table : ℕ → ℕ → Bool) (some : List ℕ) (old tops : List ℕ) : Type 0 where
+  pub inside : (c m : ℕ) → has some c ≡ true → table c m ≡ true → get_or tops m 0 ≡ c
+  pub outside : (m : ℕ) → ((c : ℕ) → has some c ≡ true → table c m ≡ false) → get_or tops m 0 ≡ get_or old m 0
 
-pub lifted_more : (size : ℕ) (table : ℕ → ℕ → Bool) (xs : List ℕ) (i : ℕ) (old tops new : List ℕ)
+pub lifted_more : (table : ℕ → ℕ → Bool) (xs : List ℕ) (i : ℕ) (old tops new : List ℕ)
     → i < length xs
-    → ((c d m : ℕ) → m < size → has xs c ≡ true → has xs d ≡ true → table c m ≡ true → table d m ≡ true → c ≡ d)
-    → AreLifted size table (take i xs) old tops
-    → ((m : ℕ) → m < size → get_or new m 0 ≡ cond (table (get_or xs i 0) m) (get_or xs i 0) (get_or tops m 0))
-    → AreLifted size table (take (i + 1) xs) old new
-lifted_more size table xs i old tops new h apart r e =
+    → ((c d m : ℕ) → has xs c ≡ true → has xs d ≡ true → table c m ≡ true → table d m ≡ true → c ≡ d)
+    → AreLifted table (take i xs) old tops
+    → ((m : ℕ) → get_or new m 0 ≡ cond (table (get_or xs i 0) m) (get_or xs i 0) (get_or tops m 0))
+    → AreLifted table (take (i + 1) xs) old new
+lifted_more table xs i old tops new h apart r e =
     let x : ℕ = get_or xs i 0 in
     record {
-      inside = λ c m hm k t. elim (has_taken xs i c h k) [
+      inside = λ c m k t. elim (has_taken xs i c h k) [
         | inl before ↦ elim (cases_Bool (table x m)) [
-          | inl tx ↦ e m hm ∙ cond-true (table x m) _ _ tx ∙ apart x c m hm (has_at xs i h) (taken_of xs i c before) tx t
-          | inr fx ↦ e m hm ∙ cond-false (table x m) _ _ fx ∙ r.inside c m hm before t
+          | inl tx ↦ e m ∙ cond-true (table x m) _ _ tx ∙ apart x c m (has_at xs i h) (taken_of xs i c before) tx t
+          | inr fx ↦ e m ∙ cond-false (table x m) _ _ fx ∙ r.inside c m before t
         ]
-        | inr here ↦ e m hm ∙ cond-true (table x m) _ _ (ap (λ z. table z m) here ∙ t) ∙ here
+        | inr here ↦ e m ∙ cond-true (table x m) _ _ (ap (λ z. table z m) here ∙ t) ∙ here
       ];
-      outside = λ m hm none.
+      outside = λ m none.
           let fx : table x m ≡ false = none x (taken_has xs i h) in
-          e m hm ∙ cond-false (table x m) _ _ fx ∙ r.outside m hm (λ c k. none c (list_any_kept (λ y. eqb y c) xs i k));
+          e m ∙ cond-false (table x m) _ _ fx ∙ r.outside m (λ c k. none c (list_any_kept (λ y. eqb y c) xs i k));
     }
 
-pub lifted_none : (size : ℕ) (table : ℕ → ℕ → Bool) (old : List ℕ) → AreLifted size table [] old old
-lifted_none size table old = record {
-  inside = λ c m h k. let no : false ≡ true = k in cc;
-  outside = λ m h k. refl;
+pub lifted_none : (table : ℕ → ℕ → Bool) (old : List ℕ) → AreLifted table [] old old
+lifted_none table old = record {
+  inside = λ c m k. let no : false ≡ true = k in cc;
+  outside = λ m k. refl;
 }
 
 -- ---- children that lose their parent, one after another
@@ -49,4 +49,18 @@ orphaned_more xs j old parents h below p i = elim (cases_eq i (get_or xs j 0)) [
       sym (cond-true (has (take (j + 1) xs) i) None (get_or old i None) (ap (has (take (j + 1) xs)) e ∙ taken_has xs j h))
   | inr ne ↦
       get_or-set_other parents (get_or xs j 0) i None None ne ∙ p i ∙ ap (λ z. cond z None (get_or old i None)) (sym (not_taken xs j i h (λ e. ne (sym e))))
+]
+
+-- ---- members that get a top, one after another
+
+pub raised_more : (xs : List ℕ) (j : ℕ) (old tops : List ℕ) (t : ℕ) → j < length xs
+    → get_or xs j 0 < length tops
+    → ((m : ℕ) → get_or tops m 0 ≡ cond (has (take j xs) m) t (get_or old m 0)) → (m : ℕ)
+    → get_or (set tops (get_or xs j 0) t) m 0 ≡ cond (has (take (j + 1) xs) m) t (get_or old m 0)
+raised_more xs j old tops t h below p m = elim (cases_eq m (get_or xs j 0)) [
+  | inl e ↦
+      ap (λ z. get_or (set tops (get_or xs j 0) t) z 0) e ∙ get_or-set_same tops (get_or xs j 0) t 0 below ∙
+      sym (cond-true (has (take (j + 1) xs) m) t (get_or old m 0) (ap (has (take (j + 1) xs)) e ∙ taken_has xs j h))
+  | inr ne ↦
+      get_or-set_other tops (get_or xs j 0) m t 0 ne ∙ p m ∙ ap (λ z. cond z t (get_or old m 0)) (sym (not_taken xs j m h (λ e. ne (sym e))))
 ]

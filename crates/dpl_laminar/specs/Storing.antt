@@ -1,13 +1,18 @@
 -- How a family is kept: lists by the numbers of the sets, and one permutation for the rings of all sets.
-use Rattle.std.specs.Prelude.{◌≡◌, ◌≢◌, ℕ, ◌+◌, ◌*◌, ◌%◌, ◌<◌, ◌==◌, zero, suc, Bool, true, false, Option, None, List, [], ◌∷◌, length, slice_index, slice_index_or}
+use Rattle.std.specs.Prelude.{◌≡◌, ◌≢◌, ℕ, ◌+◌, ◌*◌, ◌%◌, ◌<◌, zero, suc, Bool, true, false, Option, None, List, [], ◌∷◌, length, slice_index, slice_index_or}
 use Rattle.dpl_laminar.specs.Families.{Sets, IsFamily, has}
+use Rattle.dpl_laminar.specs.Loads.{size_of}
 
 -- the lists
 pub record Stored : Type 0 where
   pub size : ℕ
   pub live : List Bool
-  -- for each set, which members it holds
-  pub rows : List (List Bool)
+  -- for each set its first member, its last one, and how many it has
+  pub heads : List ℕ
+  pub tails : List ℕ
+  pub sizes : List ℕ
+  -- by the members: the next one in the stretches that hold both
+  pub onwards : List ℕ
   pub values : List ℕ
   pub parents : List (Option ℕ)
   -- one child of each set, and how many it has
@@ -28,16 +33,24 @@ walk after first (suc count) = first ∷ walk after (after first) count
 abbrev pub circle_of : List ℕ → ℕ → ℕ → List ℕ
 circle_of ring first count = walk (slice_index ring) first count
 
--- a set holds a member, where each set has a row that tells of each member
-abbrev pub row_holds : List (List Bool) → ℕ → ℕ → Bool
-row_holds rows i m = slice_index_or (slice_index_or rows i []) m false
+-- the members of a set: so many from its first one on
+abbrev pub stretch_of : List ℕ → List ℕ → List ℕ → ℕ → List ℕ
+stretch_of onwards heads sizes i = circle_of onwards (slice_index heads i) (slice_index sizes i)
+
+-- a member stands in the stretch of a set
+abbrev pub stretch_holds : List ℕ → List ℕ → List ℕ → ℕ → ℕ → Bool
+stretch_holds onwards heads sizes i m = has (stretch_of onwards heads sizes i) m
+
+-- so many numbers from the first on are places of the list
+abbrev pub IsWithin : List ℕ → ℕ → ℕ → Type 0
+IsWithin onwards first count = (i : ℕ) → i < count → slice_index (circle_of onwards first count) i < length onwards
 
 -- the family that is kept so
 abbrev pub sets_of : Stored → Sets
 sets_of s = record {
   size = s.size;
   live = λ i. slice_index_or s.live i false;
-  holds = row_holds s.rows;
+  holds = stretch_holds s.onwards s.heads s.sizes;
   value = slice_index s.values;
   parent = λ i. slice_index_or s.parents i None;
   children = λ i. circle_of s.ring (slice_index s.firsts i) (slice_index s.counts i);
@@ -49,7 +62,10 @@ sets_of s = record {
 -- what the lists of every family keep
 pub record IsKept (s : Stored) : Type 0 where
   pub live_length : length s.live ≡ 2 * s.size
-  pub rows_length : length s.rows ≡ 2 * s.size
+  pub heads_length : length s.heads ≡ 2 * s.size
+  pub tails_length : length s.tails ≡ 2 * s.size
+  pub sizes_length : length s.sizes ≡ 2 * s.size
+  pub onwards_length : length s.onwards ≡ s.size
   pub values_length : length s.values ≡ 2 * s.size
   pub parents_length : length s.parents ≡ 2 * s.size
   pub firsts_length : length s.firsts ≡ 2 * s.size
@@ -57,7 +73,19 @@ pub record IsKept (s : Stored) : Type 0 where
   pub ring_length : length s.ring ≡ 2 * s.size
   pub joins_length : length s.joins ≡ 2 * s.size
   pub tops_length : length s.tops ≡ s.size
-  pub row_dead : (i : ℕ) → slice_index_or s.live i false ≡ false → slice_index_or s.rows i [] ≡ []
+  -- a number without a set has no members
+  pub size_dead : (i : ℕ) → slice_index_or s.live i false ≡ false → slice_index s.sizes i ≡ 0
+  pub within : (i : ℕ) → IsWithin s.onwards (slice_index s.heads i) (slice_index s.sizes i)
+  -- each member of a set stands once in its stretch
+  pub counted : (i : ℕ) → slice_index s.sizes i ≡ size_of s.size ((sets_of s).holds i)
+  -- the last member
+  pub tail : (i j : ℕ) → slice_index_or s.live i false ≡ true → j + 1 ≡ slice_index s.sizes i →
+      slice_index (stretch_of s.onwards s.heads s.sizes i) j ≡ slice_index s.tails i
+  -- the last member of a set stands in the stretch of a smaller one at most at its end
+  pub inner : (i k j : ℕ) → slice_index_or s.live i false ≡ true → slice_index_or s.live k false ≡ true →
+      ((m : ℕ) → m < s.size → (sets_of s).holds i m ≡ true → (sets_of s).holds k m ≡ true) →
+      j + 1 < slice_index s.sizes i →
+      slice_index (stretch_of s.onwards s.heads s.sizes i) j ≢ slice_index s.tails k
   pub family : IsFamily (sets_of s)
 
 -- so many numbers from the first on are places of the list, all different, and the last one leads to the first
@@ -78,18 +106,13 @@ abbrev pub AreOnce : List ℕ → Type 0
 AreOnce numbers = (i j : ℕ) → i < j → j < length numbers →
     slice_index numbers i ≢ slice_index numbers j
 
--- no two of these sets have a common member below n
-abbrev pub AreApart : ℕ → List (List Bool) → List ℕ → Type 0
-AreApart n rows sets = (c d m : ℕ) → m < n → has sets c ≡ true → has sets d ≡ true →
-    row_holds rows c m ≡ true → row_holds rows d m ≡ true → c ≡ d
-
--- the sets with the numbers below n hold themselves alone, of the members below n
-abbrev pub HoldThemselves : ℕ → List (List Bool) → Type 0
-HoldThemselves n rows = (i m : ℕ) → i < n → m < n → row_holds rows i m ≡ (i == m)
+-- no two of these sets have a common member
+abbrev pub AreApart : (ℕ → ℕ → Bool) → List ℕ → Type 0
+AreApart holds sets = (c d m : ℕ) → has sets c ≡ true → has sets d ≡ true → holds c m ≡ true →
+    holds d m ≡ true → c ≡ d
 
 -- q is the least member of the set x and more than a member of the set y
-pub record IsNameOf (n : ℕ) (holds : ℕ → ℕ → Bool) (q x y : ℕ) : Type 0 where
-  pub below : q < n
+pub record IsNameOf (holds : ℕ → ℕ → Bool) (q x y : ℕ) : Type 0 where
   pub held : holds x q ≡ true
   pub least : (m : ℕ) → m < q → holds x m ≡ false
   pub less : (a : ℕ) × (a < q) × (holds y a ≡ true)

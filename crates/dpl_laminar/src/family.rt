@@ -5,8 +5,7 @@ ghost use Rattle.dpl_laminar.specs.Families.{IsFamily, AreReached, load_of, memb
 ghost use Rattle.dpl_laminar.specs.Changes.{IsSingles, AreJoined, IsShrunk, IsExpanded, IsNext};
 ghost use Rattle.dpl_laminar.specs.Storing.{sets_of};
 
-use super::members::{Members, name_of};
-use super::{Steps, releasing, rings, starting, values};
+use super::{Steps, releasing, rings, starting, stretches, values};
 use dpl_ring::Ring;
 use std::alloc::{AllocError, Global};
 use std::marker::Model;
@@ -16,9 +15,14 @@ use std::sync::ledger::Ledger;
 #[derive(Drop)]
 pub struct Family {
     size: usize,
-    // By the numbers of the sets. A number without a set has an empty row.
+    // By the numbers of the sets: the first member, the last one, and how many there are. A number
+    // without a set has none.
     live: Vec<bool>,
-    rows: Vec<Members>,
+    heads: Vec<u32>,
+    tails: Vec<u32>,
+    sizes: Vec<usize>,
+    // From each member to the next one in the stretches that hold both.
+    onwards: Vec<u32>,
     values: Vec<u64>,
     parents: Vec<Option<u32>>,
     // One child of each set, and how many there are around.
@@ -39,7 +43,10 @@ impl Model for Family {
     ghost view = { λ f. record {
       size = f.size;
       live = f.live.items;
-      rows = f.rows.items;
+      heads = f.heads.items;
+      tails = f.tails.items;
+      sizes = f.sizes.items;
+      onwards = f.onwards.items;
       values = f.values.items;
       parents = f.parents.items;
       firsts = f.firsts.items;
@@ -52,7 +59,10 @@ impl Model for Family {
     ghost invariant = { λ f. IsKept (record {
       size = f.size;
       live = f.live.items;
-      rows = f.rows.items;
+      heads = f.heads.items;
+      tails = f.tails.items;
+      sizes = f.sizes.items;
+      onwards = f.onwards.items;
       values = f.values.items;
       parents = f.parents.items;
       firsts = f.firsts.items;
@@ -72,7 +82,10 @@ impl Family {
     {
         let size = n as usize;
         let live = starting::first_half(alloc, size)?;
-        let rows = starting::single_rows(alloc, size)?;
+        let heads = starting::ascending(alloc, 2 * size)?;
+        let tails = starting::ascending(alloc, 2 * size)?;
+        let sizes = starting::ones_first(alloc, size)?;
+        let onwards = starting::ascending(alloc, size)?;
         let values = starting::filled(alloc, 0, 2 * size)?;
         let parents = starting::filled(alloc, None, 2 * size)?;
         let firsts = starting::filled(alloc, 0, 2 * size)?;
@@ -83,7 +96,10 @@ impl Family {
         Ok(Family {
             size,
             live,
-            rows,
+            heads,
+            tails,
+            sizes,
+            onwards,
             values,
             parents,
             firsts,
@@ -95,10 +111,10 @@ impl Family {
     }
 
     /// Makes a new top of these tops, with value 0, and gives its number. `joins[i]` is a member of
-    /// child `i` and one of the next child around. A call costs a step.
+    /// child `i` and one of the next child around. A call costs a step, and takes no memory.
     pub fn shrink<L: Ledger>(
         &mut self,
-        alloc: Global,
+        _alloc: Global,
         children: &[u32],
         joins: &[(u32, u32)],
         steps: &mut Steps<L>,
@@ -110,20 +126,26 @@ impl Family {
         ensures family { IsFamily (sets_of self.new) }
         ensures steps { steps.new ≡ steps.old + 1 }
     {
-        steps.tick(); // A refused call counts too.
-        let members = Members::union(alloc, &self.rows, children, self.size)?;
-        let name = name_of(
-            &self.rows,
-            self.size,
-            children[0] as usize,
-            children[1] as usize,
+        steps.tick();
+        let name = stretches::name_of(
+            &self.onwards,
+            &self.heads,
+            &self.sizes,
+            children[0],
+            children[1],
         );
-        let set = self.size + name;
-        releasing::lift(&mut self.tops, &members, set as u32);
+        let total = stretches::together(&self.sizes, children);
+        let head = self.heads[children[0] as usize];
+        let tail = self.tails[children[children.len() - 1] as usize];
+        let set = self.size + name as usize;
+        stretches::link(&mut self.onwards, &self.heads, &self.tails, children);
+        releasing::lift(&mut self.tops, &self.onwards, head, total, set as u32);
         releasing::adopt(&mut self.parents, children, set as u32);
         releasing::join(&mut self.joins, children, joins);
         rings::tie(&mut self.ring, children);
-        self.rows[set] = members;
+        self.heads[set] = head;
+        self.tails[set] = tail;
+        self.sizes[set] = total;
         self.firsts[set] = children[0];
         self.counts[set] = children.len();
         self.live[set] = true;
@@ -144,11 +166,18 @@ impl Family {
         let at = set as usize;
         let first = self.firsts[at];
         let count = self.counts[at];
-        releasing::lift_all(&mut self.tops, &self.rows, &self.ring, first, count);
+        releasing::lift_all(
+            &mut self.tops,
+            &self.onwards,
+            &self.heads,
+            &self.sizes,
+            &self.ring,
+            first,
+            count,
+        );
         releasing::orphan(&mut self.parents, &self.ring, first, count);
         rings::untie(&mut self.ring, first, count);
-        let row = &mut self.rows[at];
-        row.clear();
+        self.sizes[at] = 0;
         self.counts[at] = 0;
         self.live[at] = false;
     }
@@ -202,7 +231,8 @@ impl Family {
         requires { (sets_of self.now).live set ≡ true }
         ensures { result ≡ (sets_of self.now).holds set member }
     {
-        self.rows[set as usize].holds(member as usize)
+        let at = set as usize;
+        stretches::is_in(&self.onwards, self.heads[at], self.sizes[at], member)
     }
 
     /// The value of a live set.
@@ -230,7 +260,8 @@ impl Family {
         requires { (sets_of self.now).live set ≡ true }
         ensures { IfOk result (λ list. list.items ≡ members_of (sets_of self.now) set) }
     {
-        self.rows[set as usize].list(alloc, self.size)
+        let at = set as usize;
+        stretches::list(alloc, &self.onwards, self.heads[at], self.sizes[at])
     }
 
     /// The load of two members: the sum of the values of the sets that hold exactly one of them.
@@ -239,6 +270,6 @@ impl Family {
         requires second { t < (sets_of self.now).size }
         ensures { result ≡ load_of (sets_of self.now) s t }
     {
-        values::load_between(&self.values, &self.rows, s as usize, t as usize)
+        values::load_between(&self.values, &self.onwards, &self.heads, &self.sizes, s, t)
     }
 }

@@ -11,11 +11,11 @@
 
 mod family;
 mod law;
-mod members;
 mod releasing;
 mod rings;
 mod starting;
 mod steps;
+mod stretches;
 mod values;
 
 pub use family::Family;

@@ -2,9 +2,8 @@
 
 ghost use Rattle.std.specs.Prelude.{◌≡◌, ℕ, ◌<◌, if◌then◌else◌, true, false, None, Some, length, slice_index, slice_index_or};
 ghost use Rattle.dpl_laminar.specs.Families.{has};
-ghost use Rattle.dpl_laminar.specs.Storing.{circle_of, row_holds, AreBelow, AreOnce, AreApart, HoldThemselves};
+ghost use Rattle.dpl_laminar.specs.Storing.{circle_of, stretch_holds, AreBelow, AreOnce, AreApart, IsWithin};
 
-use super::members::Members;
 use dpl_ring::Ring;
 
 /// Writes the parent of these sets.
@@ -34,50 +33,51 @@ pub fn join(all: &mut [(u32, u32)], children: &[u32], joins: &[(u32, u32)])
     }
 }
 
-/// Makes a set the top of its members.
-pub fn lift(tops: &mut [u32], row: &Members, set: u32)
-    ensures { (m : ℕ) → m < length tops.old → slice_index tops.new m ≡
-        (if slice_index_or row.now m false then set else slice_index tops.old m) }
+/// Makes a set the top of the members of a stretch.
+pub fn lift(tops: &mut [u32], onwards: &[u32], head: u32, size: usize, set: u32)
+    requires tops { length tops.old ≡ length onwards.now }
+    requires within { IsWithin onwards.now head size }
+    ensures { (m : ℕ) → slice_index tops.new m ≡
+        (if has (circle_of onwards.now head size) m then set else slice_index tops.old m) }
 {
-    let held = row.as_slice();
-    for m in 0..tops.len().min(held.len()) {
-        let top = tops[m]; // Read in any case, so that several are done at a time.
-        tops[m] = if held[m] { set } else { top };
-    }
-}
-
-/// Makes the set with this number the top of its members.
-fn lift_set(tops: &mut [u32], rows: &[Members], set: u32)
-    requires set { set < length rows.now }
-    requires singles { HoldThemselves (length tops.old) rows.now }
-    ensures { (m : ℕ) → m < length tops.old → slice_index tops.new m ≡
-        (if row_holds rows.now set m then set else slice_index tops.old m) }
-{
-    let number = set as usize;
-    if number < tops.len() {
-        tops[number] = set;
-    } else {
-        lift(tops, &rows[number], set);
+    let mut member = head;
+    for _ in 0..size {
+        tops[member as usize] = set;
+        member = onwards[member as usize];
     }
 }
 
 /// Makes each child of a ring the top of its members.
-pub fn lift_all(tops: &mut [u32], rows: &[Members], ring: &Ring, first: u32, count: usize)
-    requires ring { length ring.now ≡ length rows.now }
+pub fn lift_all(
+    tops: &mut [u32],
+    onwards: &[u32],
+    heads: &[u32],
+    sizes: &[usize],
+    ring: &Ring,
+    first: u32,
+    count: usize,
+)
+    requires tops { length tops.old ≡ length onwards.now }
+    requires heads { length ring.now ≡ length heads.now }
+    requires sizes { length ring.now ≡ length sizes.now }
     requires below { (i : ℕ) → i < count →
-        slice_index (circle_of ring.now first count) i < length rows.now }
-    requires apart { AreApart (length tops.old) rows.now (circle_of ring.now first count) }
-    requires singles { HoldThemselves (length tops.old) rows.now }
-    ensures inside { (c m : ℕ) → m < length tops.old →
-        has (circle_of ring.now first count) c ≡ true → row_holds rows.now c m ≡ true →
+        slice_index (circle_of ring.now first count) i < length ring.now }
+    requires within { (i : ℕ) → i < length ring.now →
+        IsWithin onwards.now (slice_index heads.now i) (slice_index sizes.now i) }
+    requires apart { AreApart (stretch_holds onwards.now heads.now sizes.now)
+        (circle_of ring.now first count) }
+    ensures inside { (c m : ℕ) → has (circle_of ring.now first count) c ≡ true →
+        stretch_holds onwards.now heads.now sizes.now c m ≡ true →
         slice_index tops.new m ≡ c }
-    ensures outside { (m : ℕ) → m < length tops.old →
-        ((c : ℕ) → has (circle_of ring.now first count) c ≡ true → row_holds rows.now c m ≡ false) →
+    ensures outside { (m : ℕ) →
+        ((c : ℕ) → has (circle_of ring.now first count) c ≡ true →
+        stretch_holds onwards.now heads.now sizes.now c m ≡ false) →
         slice_index tops.new m ≡ slice_index tops.old m }
 {
     let mut child = first;
     for _ in 0..count {
-        lift_set(tops, rows, child);
+        let at = child as usize;
+        lift(tops, onwards, heads[at], sizes[at], child);
         child = ring.next(child);
     }
 }

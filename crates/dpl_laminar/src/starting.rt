@@ -1,9 +1,7 @@
 //! What a family of single members is made of.
 
-ghost use Rattle.std.specs.Prelude.{◌≡◌, ℕ, ◌*◌, ◌<◌, ◌≤◌, ◌==◌, nat_lt, false, [], length, slice_index, slice_index_or, replicate, IfOk};
-ghost use Rattle.dpl_laminar.specs.Storing.{row_holds};
+ghost use Rattle.std.specs.Prelude.{◌≡◌, ℕ, ◌*◌, ◌<◌, ◌≤◌, nat_lt, false, length, slice_index, slice_index_or, replicate, IfOk};
 
-use super::members::Members;
 use std::alloc::{AllocError, Global};
 
 /// The same item so often.
@@ -19,7 +17,7 @@ pub fn filled<T: Copy + Drop>(alloc: Global, item: T, count: usize) -> Result<Ve
 
 /// The numbers below a count, in order.
 pub fn ascending(alloc: Global, count: usize) -> Result<Vec<u32>, AllocError>
-    requires { count ≤ 2048 }
+    requires { count ≤ 4096 }
     ensures length { IfOk result (λ list. length list.items ≡ count) }
     ensures each { IfOk result (λ list. (k : ℕ) → k < count → slice_index list.items k ≡ k) }
 {
@@ -44,31 +42,17 @@ pub fn first_half(alloc: Global, count: usize) -> Result<Vec<bool>, AllocError>
     Ok(list)
 }
 
-/// A set at each place: single members, and as many that hold nothing.
-pub fn single_rows(alloc: Global, size: usize) -> Result<Vec<Members>, AllocError>
-    requires { size ≤ 2048 }
-    ensures length { IfOk result (λ rows. length rows.items ≡ 2 * size) }
-    ensures singles { IfOk result (λ rows.
-        (i m : ℕ) → i < size → m < size → row_holds rows.items i m ≡ (i == m)) }
-    ensures others { IfOk result (λ rows.
-        (i : ℕ) → size ≤ i → slice_index_or rows.items i [] ≡ []) }
+/// 1 at the first half of the places, 0 at the others.
+pub fn ones_first(alloc: Global, count: usize) -> Result<Vec<usize>, AllocError>
+    requires { count ≤ 2048 }
+    ensures length { IfOk result (λ list. length list.items ≡ 2 * count) }
+    ensures ones { IfOk result (λ list. (k : ℕ) → k < count → slice_index list.items k ≡ 1) }
+    ensures none { IfOk result (λ list. (k : ℕ) → count ≤ k → slice_index list.items k ≡ 0) }
 {
-    let mut rows = Vec::new(alloc);
-    for i in 0..2 * size {
-        rows.push(first_row(alloc, i, size)?)?;
+    let mut list = Vec::new(alloc);
+    for i in 0..2 * count {
+        let item = if i < count { 1 } else { 0 };
+        list.push(item)?;
     }
-    Ok(rows)
-}
-
-/// What the set with this number holds at first.
-fn first_row(alloc: Global, set: usize, size: usize) -> Result<Members, AllocError>
-    ensures single { IfOk result (λ row. set < size →
-        (m : ℕ) → m < size → slice_index_or row m false ≡ (set == m)) }
-    ensures none { IfOk result (λ row. size ≤ set → row ≡ []) }
-{
-    if set < size {
-        Members::single(alloc, set, size)
-    } else {
-        Ok(Members::none(alloc))
-    }
+    Ok(list)
 }

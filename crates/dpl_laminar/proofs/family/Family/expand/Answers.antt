@@ -3,22 +3,29 @@ use Rattle.std.proofs.lemmas.List.{take_at}
 use Rattle.dpl_laminar.specs.Changes.{IsExpanded}
 use Rattle.dpl_laminar.specs.Storing.{Stored, sets_of, IsKept}
 use Rattle.dpl_laminar.proofs.Keeping.{live_below, first_read, count_read, stored}
+use Rattle.dpl_laminar.proofs.Shrinking.{held_below}
 use Rattle.dpl_laminar.proofs.Expanding.{AreCleared, without_set, kids_some, kids_circle, expand_answer}
 use Rattle.dpl_laminar.proofs.family.Family.expand.Given as given
 use Rattle.dpl_laminar.proofs.family.Family.expand.Goals as goal
+
+pub lift_all-requires-clause-tops : goal.lift_all-requires-clause-tops
+lift_all-requires-clause-tops g c = omega (arith, c.deref_mut.ensures.len, c.self.invariant.tops_length, c.self.invariant.onwards_length, ap length c.deref.ensures.value)
+
+pub lift_all-requires-clause-heads : goal.lift_all-requires-clause-heads
+lift_all-requires-clause-heads g c = omega (arith, c.self.invariant.ring_length, c.self.invariant.heads_length, ap length c.deref-2.ensures.value)
+
+pub lift_all-requires-clause-sizes : goal.lift_all-requires-clause-sizes
+lift_all-requires-clause-sizes g c = omega (arith, c.self.invariant.ring_length, c.self.invariant.sizes_length, ap length c.deref-3.ensures.value)
 
 pub lift_all-requires-clause-below : goal.lift_all-requires-clause-below
 lift_all-requires-clause-below g c =
     let live = ap (λ (z : Stored). get_or z.live c.args.set false) c.self.view_is ∙ c.requires.live in
     let first = first_read _ c.args.set _ c.self.invariant live c.index-first.ensures in
     let count = count_read _ c.args.set _ c.self.invariant live c.index-count.ensures in
-    rw (first, count) (λ i h. omega (
-      arith,
-      (kids_circle _ c.args.set c.self.invariant live).below i h,
-      c.self.invariant.ring_length,
-      c.self.invariant.rows_length,
-      ap length c.deref.ensures.value,
-    ))
+    rw (first, count) (kids_circle _ c.args.set c.self.invariant live).below
+
+pub lift_all-requires-clause-within : goal.lift_all-requires-clause-within
+lift_all-requires-clause-within g c = rw (c.deref.ensures.value, c.deref-2.ensures.value, c.deref-3.ensures.value) (λ i h. c.self.invariant.within i)
 
 pub lift_all-requires-clause-apart : goal.lift_all-requires-clause-apart
 lift_all-requires-clause-apart g c =
@@ -26,16 +33,8 @@ lift_all-requires-clause-apart g c =
     let below = live_below _ c.args.set c.self.invariant live in
     let first = first_read _ c.args.set _ c.self.invariant live c.index-first.ensures in
     let count = count_read _ c.args.set _ c.self.invariant live c.index-count.ensures in
-    rw (first, count) (λ a b m h ka kb ta tb. c.self.invariant.family.laminar.children.apart c.args.set a b m below
-    (omega (arith, h, c.deref_mut.ensures.len, c.self.invariant.tops_length)) ka kb (rw c.deref.ensures.value at ta)
-    (rw c.deref.ensures.value at tb))
-
-pub lift_all-requires-clause-singles : goal.lift_all-requires-clause-singles
-lift_all-requires-clause-singles g c = λ i m hi hm.
-    let single = c.self.invariant.family.laminar.sets.single i m
-    (omega (arith, hi, c.deref_mut.ensures.len, c.self.invariant.tops_length))
-    (omega (arith, hm, c.deref_mut.ensures.len, c.self.invariant.tops_length)) in
-    rw c.deref.ensures.value single
+    rw (first, count, c.deref.ensures.value, c.deref-2.ensures.value, c.deref-3.ensures.value) (λ a b m ka kb ta tb.
+    c.self.invariant.family.laminar.children.apart c.args.set a b m below (held_below _ a m c.self.invariant ta) ka kb ta tb)
 
 pub orphan-requires-clause-below : goal.orphan-requires-clause-below
 orphan-requires-clause-below g c =
@@ -67,7 +66,8 @@ untie-requires-clause-circle g c =
 
 -- the lists as they were when the call began
 abbrev before : (g : given.Over) → goal.After-self-5-1 g → Stored
-before g c = stored c.self.inside.size c.self.inside.live.items c.self.inside.rows.items c.self.inside.values.items
+before g c = stored c.self.inside.size c.self.inside.live.items c.self.inside.heads.items c.self.inside.tails.items
+    c.self.inside.sizes.items c.self.inside.onwards.items c.self.inside.values.items
     c.self.inside.parents.items c.self.inside.firsts.items c.self.inside.counts.items c.self.inside.ring
     c.self.inside.joins.items c.self.inside.tops.items
 
@@ -93,8 +93,8 @@ answer g c =
       ring_others = rw (first, count) at c.untie.ensures.others;
       tops_length = c.lift_all.auto.tops ∙ ap length c.deref_mut.ensures.value;
       tops = record {
-        inside = rw (first, count, c.deref.ensures.value, c.deref_mut.ensures.value) at c.lift_all.ensures.inside;
-        outside = rw (first, count, c.deref.ensures.value, c.deref_mut.ensures.value) at c.lift_all.ensures.outside;
+        inside = rw (first, count, c.deref.ensures.value, c.deref-2.ensures.value, c.deref-3.ensures.value) at c.lift_all.ensures.inside;
+        outside = rw (first, count, c.deref.ensures.value, c.deref-2.ensures.value, c.deref-3.ensures.value, c.deref_mut.ensures.value) at c.lift_all.ensures.outside;
       };
     } in
     expand_answer _ c.args.set _ _ _ _ _ c.self.invariant least live top none written
@@ -102,10 +102,10 @@ answer g c =
     (take_at c.lift_all.new.tops _ c.self.inside.tops.len (omega (arith, c.self.inside.tops.ok, written.tops_length)))
 
 pub invariant_of-self : goal.invariant_of-self
-invariant_of-self g c = rw c.clear.ensures (answer g c).0
+invariant_of-self g c = (answer g c).0
 
 pub returns-clause-value : goal.returns-clause-value
-returns-clause-value g c = rw (← c.self.view_is, c.clear.ensures) (answer g c).1
+returns-clause-value g c = rw (← c.self.view_is) (answer g c).1
 
 pub returns-clause-family : goal.returns-clause-family
-returns-clause-family g c = rw c.clear.ensures (answer g c).0.family
+returns-clause-family g c = (answer g c).0.family

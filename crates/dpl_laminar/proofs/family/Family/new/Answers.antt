@@ -4,8 +4,10 @@ use Rattle.dpl_laminar.proofs.family.Family.new.Goals as goal
 start : (c : goal.In_ok-tops) → AreStart (record {
   size = c.args.n;
   live = c.in_ok-live.live.items;
-  rows =
-      c.in_ok-rows.rows.items;
+  heads = c.in_ok-heads.heads.items;
+  tails = c.in_ok-tails.tails.items;
+  sizes = c.in_ok-sizes.sizes.items;
+  onwards = c.in_ok-onwards.onwards.items;
   values = c.in_ok-values.values.items;
   parents = c.in_ok-parents.parents.items;
   firsts =
@@ -19,9 +21,14 @@ start : (c : goal.In_ok-tops) → AreStart (record {
 start c = record {
   live_length = c.in_ok-live.ensures.length;
   live = c.in_ok-live.ensures.each;
-  rows_length = c.in_ok-rows.ensures.length;
-  row_single = c.in_ok-rows.ensures.singles;
-  row_none = c.in_ok-rows.ensures.others;
+  heads_length = c.in_ok-heads.ensures.length;
+  heads = c.in_ok-heads.ensures.each;
+  tails_length = c.in_ok-tails.ensures.length;
+  tails = c.in_ok-tails.ensures.each;
+  sizes_length = c.in_ok-sizes.ensures.length;
+  ones = c.in_ok-sizes.ensures.ones;
+  none = c.in_ok-sizes.ensures.none;
+  onwards_length = c.in_ok-onwards.ensures.length;
   values = c.in_ok-values.ensures;
   parents = c.in_ok-parents.ensures;
   firsts = c.in_ok-firsts.ensures;
