@@ -39,7 +39,7 @@ pub record AreLinked (g : ℕ → ℕ) (head size tail : ℕ → ℕ) (cs : List
   pub last : (c j : ℕ) → has cs c ≡ true → j + 1 ≡ size c → get_or (walk g (head c) (size c)) j 0 ≡ tail c
   pub next : (i : ℕ) → i + 1 < length cs → g (tail (get_or cs i 0)) ≡ head (get_or cs (i + 1) 0)
 
--- what is true of each number of each part but the last number of the last part is true of all but the last number of the whole
+-- all but the first hang together as well
 others_linked : (g : ℕ → ℕ) (head size tail : ℕ → ℕ) (c : ℕ) (cs : List ℕ) → AreLinked g head size tail (c ∷ cs) → AreLinked g head size tail cs
 others_linked g head size tail c cs p = record {
   some = λ d h. p.some d (has_more c d cs h);
@@ -56,6 +56,7 @@ linked_parts g head size tail c d ds p =
     ap (λ z. walk g (head c) (size c) ++ walk g z (sum_by size (d ∷ ds)))
     (step_past g (head c) (size c) (tail c) (p.some c me) (λ j e. p.last c j me e) ∙ p.next 0 (omega arith))
 
+-- one set alone is the whole
 pub linked_alone : (g : ℕ → ℕ) (head size : ℕ → ℕ) (c : ℕ) → walk g (head c) (sum_by size (c ∷ [])) ≡ walk g (head c) (size c)
 linked_alone g head size c = ap (walk g (head c)) (let e = sum_by-cons size c [] in omega (arith, e))
 
@@ -109,7 +110,8 @@ linked_last g head size tail (c ∷ d ∷ ds) some p j (suc k) e l =
           (omega (arith, r.1, lx, e, one)) (omega arith)
     ])
 
--- what all numbers of all parts are, but for the last one of the last part, all numbers of the whole are but the last one
+-- what is true of each number of each part, but for the last number of the last part, is true of each number of the whole
+-- but its last
 pub linked_all : (g : ℕ → ℕ) (head size tail : ℕ → ℕ) (P : ℕ → Type 0) (cs : List ℕ) → 0 < length cs → AreLinked g head size tail cs
     → ((i j : ℕ) → i < length cs → j < size (get_or cs i 0) → (i + 1 < length cs) ⊎ (j + 1 < size (get_or cs i 0)) →
     P (get_or (walk g (head (get_or cs i 0)) (size (get_or cs i 0))) j 0))
