@@ -39,6 +39,13 @@ drop_inside-requires-clause-to g c = λ i h.
     let w = folding_of q.growing.stage q.pair.from q.pair.to q.tight q.pair.apart c.in_ok-meeting.ensures c.in_ok-joins.ensures c.deref-5.ensures.value in
     omega (arith, (folding_step w i h).to, q.growing.lists.mates_count, ap length c.deref_mut.ensures.value)
 
+pub drop_inside-requires-clause-range : goal.drop_inside-requires-clause-range
+drop_inside-requires-clause-range g c = λ m t h paired.
+    let q = c.requires in
+    let count = q.growing.lists.mates_count in
+    let same = ap length c.deref_mut.ensures.value in
+    omega (arith, q.growing.stage.rest.pairs.range m t (omega (arith, h, count, same)) (rw c.deref_mut.ensures.value at paired), count, same)
+
 pub drop_inside-requires-clause-ends : goal.drop_inside-requires-clause-ends
 drop_inside-requires-clause-ends g c = λ m t h paired same.
     let q = c.requires in
