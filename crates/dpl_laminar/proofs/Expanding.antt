@@ -160,6 +160,7 @@ expanded_kept s r ps rg ts p least live top none w t =
       tails_length = p.tails_length;
       sizes_length = length-set s.sizes r 0 ∙ p.sizes_length;
       onwards_length = p.onwards_length;
+      places_length = p.places_length;
       values_length = p.values_length;
       parents_length = w.parents_length ∙ p.parents_length;
       firsts_length = p.firsts_length;
@@ -194,6 +195,10 @@ expanded_kept s r ps rg ts p least live top none w t =
               (λ m hm im. sym (ap (λ z. has z m) (stretch_left s r k nk)) ∙ sub m hm (ap (λ z. has z m) (stretch_left s r i ne) ∙ im))
               (omega (arith, h, size_left i ne)) (sym (ap (λ z. get_or z b 0) (stretch_left s r i ne)) ∙ e)
         ])
+      ];
+      placed = λ i b l h. elim (cases_eq i r) [
+        | inl is ↦ absurd (gone i is l)
+        | inr ne ↦ ap (λ z. get_or s.places (get_or z b 0) 0) (stretch_left s r i ne) ∙ p.placed i b (was i ne l) (omega (arith, h, size_left i ne))
       ];
       family = record {
         small = p.family.small;

@@ -14,16 +14,17 @@ use Rattle.dpl_laminar.proofs.Singles.{singles_family}
 use Rattle.dpl_list.proofs.Lists.{repeated}
 
 -- lists that keep sets
-abbrev pub stored : (size : ℕ) (live : List Bool) (heads tails sizes onwards values : List ℕ)
+abbrev pub stored : (size : ℕ) (live : List Bool) (heads tails sizes onwards places values : List ℕ)
     → (parents : List (Option ℕ)) (firsts counts ring : List ℕ) (joins : List (ℕ × ℕ)) → (tops : List ℕ)
     → Stored
-stored size live heads tails sizes onwards values parents firsts counts ring joins tops = record {
+stored size live heads tails sizes onwards places values parents firsts counts ring joins tops = record {
   size = size;
   live = live;
   heads = heads;
   tails = tails;
   sizes = sizes;
   onwards = onwards;
+  places = places;
   values = values;
   parents = parents;
   firsts = firsts;
@@ -62,6 +63,7 @@ pub record AreStart (s : Stored) : Type 0 where
   pub ones : (k : ℕ) → k < s.size → get_or s.sizes k 0 ≡ 1
   pub none : (k : ℕ) → s.size ≤ k → get_or s.sizes k 0 ≡ 0
   pub onwards_length : length s.onwards ≡ s.size
+  pub places : s.places ≡ replicate s.size 0
   pub values : s.values ≡ replicate (2 * s.size) 0
   pub parents : s.parents ≡ replicate (2 * s.size) None
   pub firsts : s.firsts ≡ replicate (2 * s.size) 0
@@ -120,6 +122,7 @@ start_kept s p small = record {
   tails_length = p.tails_length;
   sizes_length = p.sizes_length;
   onwards_length = p.onwards_length;
+  places_length = ap length p.places ∙ length-replicate _ _;
   values_length = ap length p.values ∙ length-replicate _ _;
   parents_length = ap length p.parents ∙ length-replicate _ _;
   firsts_length = ap length p.firsts ∙ length-replicate _ _;
@@ -152,6 +155,18 @@ start_kept s p small = record {
     | inl lt ↦ absurd (omega (arith, h, p.ones i lt))
     | inr le ↦ absurd (omega (arith, h, p.none i le))
   ];
+  placed = λ i j l h.
+      let none : (m : ℕ) → get_or s.places m 0 ≡ 0 = λ m. ap (λ z. get_or z m 0) p.places ∙ repeated s.size m 0 in
+      elim (cases_lt i s.size) [
+        | inl lt ↦ omega (
+          arith,
+          h,
+          p.ones i lt,
+          none (get_or (stretch_of s.onwards s.heads s.sizes i) j 0),
+          none (get_or s.heads i 0),
+        )
+        | inr le ↦ absurd (omega (arith, h, p.none i le))
+      ];
   family = singles_family (sets_of s) (start_singles s p) small;
 }
 
@@ -201,6 +216,7 @@ raised_kept s i v p live small =
       tails_length = p.tails_length;
       sizes_length = p.sizes_length;
       onwards_length = p.onwards_length;
+      places_length = p.places_length;
       values_length = length-set s.values i v ∙ p.values_length;
       parents_length = p.parents_length;
       firsts_length = p.firsts_length;
@@ -213,6 +229,7 @@ raised_kept s i v p live small =
       counted = p.counted;
       tail = p.tail;
       inner = p.inner;
+      placed = p.placed;
       family = record {
         small = f.small;
         laminar = laminar_revalued s.size (sets_of s) (λ j. get_or (set s.values i v) j 0) f.laminar;

@@ -1,3 +1,4 @@
+mod Among
 pub mod Duality
 mod Expanding
 mod Gathered
@@ -5,6 +6,7 @@ pub mod Keeping
 mod Lifting
 mod Linked
 pub mod Numbers
+mod Placed
 pub mod Reached
 pub mod Released
 mod Shrinking

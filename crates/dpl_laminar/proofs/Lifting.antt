@@ -1,10 +1,11 @@
 -- Children that become the tops of their members, one after another.
-use Rattle.std.proofs.Common.{◌≡◌, ℕ, ◌+◌, ◌<◌, refl, sym, ap, ◌∙◌, Bool, true, false, cond, inl, inr, eqb, List, []}
+use Rattle.std.proofs.Common.{arith, ◌≡◌, ℕ, ◌+◌, ◌<◌, refl, sym, ap, ◌∙◌, Bool, true, false, cond, inl, inr, eqb, List, []}
 use Rattle.std.proofs.Common.{take, length, get_or, set, get_or-set_same, get_or-set_other, Option, None}
 use Rattle.std.proofs.lemmas.Bool.{cases_eq, cases_Bool, cond-true, cond-false}
 use Rattle.std.proofs.lemmas.List.Folds.{list_any_kept}
 use Rattle.dpl_laminar.specs.Families.{has}
-use Rattle.dpl_laminar.proofs.Numbers.{has_at, has_taken, taken_has, taken_of, not_taken}
+use Rattle.dpl_laminar.specs.Storing.{AreOnce}
+use Rattle.dpl_laminar.proofs.Numbers.{has_at, has_taken, taken_has, taken_of, not_taken, true_false}
 
 pub record AreLifted (table : ℕ → ℕ → Bool) (some : List ℕ) (old tops : List ℕ) : Type 0 where
   pub inside : (c m : ℕ) → has some c ≡ true → table c m ≡ true → get_or tops m 0 ≡ c
@@ -64,3 +65,18 @@ raised_more xs j old tops t h below p m = elim (cases_eq m (get_or xs j 0)) [
   | inr ne ↦
       get_or-set_other tops (get_or xs j 0) m t 0 ne ∙ p m ∙ ap (λ z. cond z t (get_or old m 0)) (sym (not_taken xs j m h (λ e. ne (sym e))))
 ]
+
+-- ---- members that are numbered, one after another
+
+pub numbered_more : (xs : List ℕ) (k : ℕ) (places : List ℕ) → k < length xs → AreOnce xs → get_or xs k 0 < length places
+    → ((i : ℕ) → i < k → get_or places (get_or xs i 0) 0 ≡ i) → (i : ℕ) → i < k + 1
+    → get_or (set places (get_or xs k 0) k) (get_or xs i 0) 0 ≡ i
+numbered_more xs k places h once below p i l = elim (cases_eq i k) [
+  | inl e ↦ ap (λ z. get_or (set places (get_or xs k 0) k) (get_or xs z 0) 0) e ∙ get_or-set_same places (get_or xs k 0) k 0 below ∙ sym e
+  | inr ne ↦ get_or-set_other places (get_or xs k 0) (get_or xs i 0) k 0 (once i k (omega arith) h) ∙ p i (omega arith)
+]
+
+pub unnumbered : (xs : List ℕ) (k m : ℕ) (places : List ℕ) → k < length xs → has xs m ≡ false
+    → get_or (set places (get_or xs k 0) k) m 0 ≡ get_or places m 0
+unnumbered xs k m places h none =
+    get_or-set_other places (get_or xs k 0) m k 0 (λ e. true_false (has xs m) (ap (has xs) e ∙ has_at xs k h) none)

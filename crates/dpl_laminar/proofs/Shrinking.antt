@@ -7,7 +7,7 @@ use Rattle.std.proofs.lemmas.List.{get_or_past, get_or_read}
 use Rattle.std.specs.List.{list_any}
 use Rattle.dpl_laminar.specs.Families.{Sets, IsLaminar, IsTie, has}
 use Rattle.dpl_laminar.specs.Changes.{AreJoined, IsShrunk}
-use Rattle.dpl_laminar.specs.Storing.{Stored, sets_of, walk, circle_of, stretch_of, IsKept, IsWithin, IsNameOf}
+use Rattle.dpl_laminar.specs.Storing.{Stored, sets_of, walk, circle_of, stretch_of, AreOnce, IsKept, IsWithin, IsNameOf}
 use Rattle.dpl_laminar.specs.Loads.{size_of}
 use Rattle.std.specs.List.{sum_by}
 use Rattle.dpl_laminar.proofs.Keeping.{live_below}
@@ -15,7 +15,8 @@ use Rattle.dpl_laminar.proofs.Linked.{AreLinked, walk_but_last, linked_has, link
 use Rattle.dpl_laminar.proofs.Reached.{size_most}
 use Rattle.dpl_laminar.proofs.Sums.{sum_same}
 use Rattle.dpl_laminar.proofs.Numbers.{has_at, has_head, has_tail, place_in, true_false, some_none}
-use Rattle.dpl_laminar.proofs.Walks.{walk_is, walk_same, length_walk, length_ring, around_next}
+use Rattle.dpl_laminar.proofs.Placed.{IsPart, once, part_of}
+use Rattle.dpl_laminar.proofs.Walks.{walk_is, walk_same, length_walk, length_ring, ring_first, around_next}
 use Rattle.dpl_laminar.proofs.Gathered.{gathered, sizes_gathered}
 
 -- ---- stretches of the sets of a family
@@ -33,6 +34,27 @@ some_size s i p live = omega (arith, p.counted i, p.family.laminar.sets.odd i (l
 -- what stands in the stretch of a set
 pub stretch_at : (s : Stored) (i j : ℕ) → j < get_or s.sizes i 0 → (sets_of s).holds i (get_or (stretch_of s.onwards s.heads s.sizes i) j 0) ≡ true
 stretch_at s i j h = has_at (stretch_of s.onwards s.heads s.sizes i) j (omega (arith, h, length_ring s.onwards (get_or s.heads i 0) (get_or s.sizes i 0)))
+
+-- the first member
+pub head_is : (s : Stored) (i : ℕ) → IsKept s → get_or s.live i false ≡ true → get_or (stretch_of s.onwards s.heads s.sizes i) 0 0 ≡ get_or s.heads i 0
+head_is s i p live = ring_first s.onwards (get_or s.heads i 0) (get_or s.sizes i 0) (some_size s i p live)
+
+pub head_in : (s : Stored) (i : ℕ) → IsKept s → get_or s.live i false ≡ true → (sets_of s).holds i (get_or s.heads i 0) ≡ true
+head_in s i p live = ap ((sets_of s).holds i) (sym (head_is s i p live)) ∙ stretch_at s i 0 (some_size s i p live)
+
+-- a live set that lies in another one stands in its stretch
+pub part_in : (s : Stored) (i k : ℕ) → IsKept s → get_or s.live i false ≡ true → get_or s.live k false ≡ true
+    → ((m : ℕ) → m < s.size → (sets_of s).holds i m ≡ true → (sets_of s).holds k m ≡ true)
+    → (a : ℕ) × IsPart (λ c. get_or s.onwards c 0) (get_or s.heads i 0) (get_or s.sizes i 0) (get_or s.heads k 0) (get_or s.sizes k 0) a
+part_in s i k p li lk sub =
+    let x : ℕ = get_or s.heads i 0 in
+    let hx : (sets_of s).holds i x ≡ true = head_in s i p li in
+    let v = place_in (stretch_of s.onwards s.heads s.sizes k) x (sub x (held_below s i x p hx) hx) in (
+      v.0,
+      part_of (λ c. get_or s.onwards c 0) x (get_or s.sizes i 0) (get_or s.heads k 0) (get_or s.sizes k 0) v.0 (get_or s.tails k 0)
+          (omega (arith, v.1, length_ring s.onwards (get_or s.heads k 0) (get_or s.sizes k 0))) v.2
+          (λ b e. p.tail k b lk e) (λ b h. p.inner i k b li lk sub h),
+    )
 
 -- the last member
 pub tail_in : (s : Stored) (i : ℕ) → IsKept s → get_or s.live i false ≡ true → (sets_of s).holds i (get_or s.tails i 0) ≡ true
@@ -143,10 +165,17 @@ pub record AreHung (s : Stored) (cs : List ℕ) (onw : List ℕ) (total : ℕ) :
   pub linked : (i : ℕ) → i + 1 < length cs → get_or onw (get_or s.tails (get_or cs i 0) 0) 0 ≡ get_or s.heads (get_or cs (i + 1) 0) 0
   pub others : (m : ℕ) → ((i : ℕ) → i + 1 < length cs → get_or s.tails (get_or cs i 0) 0 ≢ m) → get_or onw m 0 ≡ get_or s.onwards m 0
 
+-- the members of the whole have places from 0 on
+pub record AreNumbered (s : Stored) (cs : List ℕ) (onw pl : List ℕ) (total : ℕ) : Type 0 where
+  pub same_length : length pl ≡ length s.places
+  pub inside : (i : ℕ) → i < total → get_or pl (get_or (circle_of onw (get_or s.heads (get_or cs 0 0) 0) total) i 0) 0 ≡ i
+  pub outside : (m : ℕ) → has (circle_of onw (get_or s.heads (get_or cs 0 0) 0) total) m ≡ false → get_or pl m 0 ≡ get_or s.places m 0
+
 -- what the writes of a new set leave
-pub record AreWritten (s : Stored) (cs : List ℕ) (js : List (ℕ × ℕ)) (r : ℕ) (onw : List ℕ) (total : ℕ) (ps : List (Option ℕ))
+pub record AreWritten (s : Stored) (cs : List ℕ) (js : List (ℕ × ℕ)) (r : ℕ) (onw pl : List ℕ) (total : ℕ) (ps : List (Option ℕ))
     (rg : List ℕ) (jn : List (ℕ × ℕ)) (ts : List ℕ) : Type 0 where
   pub hung : AreHung s cs onw total
+  pub numbered : AreNumbered s cs onw pl total
   pub parents_length : length ps ≡ length s.parents
   pub parents : (i : ℕ) → get_or ps i None ≡ cond (has cs i) (Some r) (get_or s.parents i None)
   pub ring_length : length rg ≡ length s.ring
@@ -159,13 +188,14 @@ pub record AreWritten (s : Stored) (cs : List ℕ) (js : List (ℕ × ℕ)) (r :
   pub tops : (m : ℕ) → get_or ts m 0 ≡ cond (has (circle_of onw (get_or s.heads (get_or cs 0 0) 0) total) m) r (get_or s.tops m 0)
 
 -- the lists with a new set that begins and ends with these members
-abbrev pub with_ends : Stored → List ℕ → ℕ → ℕ → ℕ → List ℕ → ℕ → List (Option ℕ) → List ℕ → List (ℕ × ℕ) → List ℕ → Stored
-with_ends s cs r head tail onw total ps rg jn ts = record s {
+abbrev pub with_ends : Stored → List ℕ → ℕ → ℕ → ℕ → List ℕ → List ℕ → ℕ → List (Option ℕ) → List ℕ → List (ℕ × ℕ) → List ℕ → Stored
+with_ends s cs r head tail onw pl total ps rg jn ts = record s {
   live = set s.live r true;
   heads = set s.heads r head;
   tails = set s.tails r tail;
   sizes = set s.sizes r total;
   onwards = onw;
+  places = pl;
   parents = ps;
   firsts =
       set s.firsts r (get_or cs 0 0);
@@ -182,8 +212,8 @@ first_head s cs = get_or s.heads (get_or cs 0 0) 0
 abbrev pub last_tail : Stored → List ℕ → ℕ
 last_tail s cs = get_or s.tails (get_or cs (length cs - 1) 0) 0
 
-abbrev pub with_set : Stored → List ℕ → ℕ → List ℕ → ℕ → List (Option ℕ) → List ℕ → List (ℕ × ℕ) → List ℕ → Stored
-with_set s cs r onw total ps rg jn ts = with_ends s cs r (first_head s cs) (last_tail s cs) onw total ps rg jn ts
+abbrev pub with_set : Stored → List ℕ → ℕ → List ℕ → List ℕ → ℕ → List (Option ℕ) → List ℕ → List (ℕ × ℕ) → List ℕ → Stored
+with_set s cs r onw pl total ps rg jn ts = with_ends s cs r (first_head s cs) (last_tail s cs) onw pl total ps rg jn ts
 
 -- a child of a set is none of these tops
 no_top : (s : Stored) (cs : List ℕ) (js : List (ℕ × ℕ)) (d c : ℕ) → IsKept s → AreJoined (sets_of s) cs js
@@ -197,10 +227,10 @@ no_top s cs js d c p j hd k = elim (cases_Bool (has cs c)) [
 pub childless_past : (s : Stored) (d : ℕ) → IsKept s → 2 * s.size ≤ d → get_or s.counts d 0 ≡ 0
 childless_past s d p h = get_or_past s.counts d 0 (omega (arith, p.counts_length))
 
-children_kept : (s : Stored) (cs : List ℕ) (js : List (ℕ × ℕ)) (r : ℕ) (onw : List ℕ) (total : ℕ) (ps : List (Option ℕ)) (rg : List ℕ) (jn : List (ℕ × ℕ)) (ts : List ℕ)
-    → IsKept s → AreJoined (sets_of s) cs js → AreWritten s cs js r onw total ps rg jn ts → (i : ℕ) → i ≢ r
-    → (sets_of (with_set s cs r onw total ps rg jn ts)).children i ≡ (sets_of s).children i
-children_kept s cs js r onw total ps rg jn ts p j w i ne =
+children_kept : (s : Stored) (cs : List ℕ) (js : List (ℕ × ℕ)) (r : ℕ) (onw pl : List ℕ) (total : ℕ) (ps : List (Option ℕ)) (rg : List ℕ) (jn : List (ℕ × ℕ)) (ts : List ℕ)
+    → IsKept s → AreJoined (sets_of s) cs js → AreWritten s cs js r onw pl total ps rg jn ts → (i : ℕ) → i ≢ r
+    → (sets_of (with_set s cs r onw pl total ps rg jn ts)).children i ≡ (sets_of s).children i
+children_kept s cs js r onw pl total ps rg jn ts p j w i ne =
     let after : ℕ → ℕ = λ c. get_or rg c 0 in
     let old : ℕ → ℕ = λ c. get_or s.ring c 0 in
     let first : get_or (set s.firsts r (get_or cs 0 0)) i 0 ≡ get_or s.firsts i 0 = get_or-set_other s.firsts r i (get_or cs 0 0) 0 ne in
@@ -212,10 +242,10 @@ children_kept s cs js r onw total ps rg jn ts p j w i ne =
     ] in
     ap (λ z. walk after z (get_or (set s.counts r (length cs)) i 0)) first ∙ ap (λ z. walk after (get_or s.firsts i 0) z) count ∙ moved
 
-children_made : (s : Stored) (cs : List ℕ) (js : List (ℕ × ℕ)) (r : ℕ) (onw : List ℕ) (total : ℕ) (ps : List (Option ℕ)) (rg : List ℕ) (jn : List (ℕ × ℕ)) (ts : List ℕ)
-    → IsKept s → r < 2 * s.size → 3 ≤ length cs → AreWritten s cs js r onw total ps rg jn ts
-    → (sets_of (with_set s cs r onw total ps rg jn ts)).children r ≡ cs
-children_made s cs js r onw total ps rg jn ts p below several w =
+children_made : (s : Stored) (cs : List ℕ) (js : List (ℕ × ℕ)) (r : ℕ) (onw pl : List ℕ) (total : ℕ) (ps : List (Option ℕ)) (rg : List ℕ) (jn : List (ℕ × ℕ)) (ts : List ℕ)
+    → IsKept s → r < 2 * s.size → 3 ≤ length cs → AreWritten s cs js r onw pl total ps rg jn ts
+    → (sets_of (with_set s cs r onw pl total ps rg jn ts)).children r ≡ cs
+children_made s cs js r onw pl total ps rg jn ts p below several w =
     let after : ℕ → ℕ = λ c. get_or rg c 0 in
     let first : get_or (set s.firsts r (get_or cs 0 0)) r 0 ≡ get_or cs 0 0 = get_or-set_same s.firsts r (get_or cs 0 0) 0 (omega (arith, p.firsts_length)) in
     let count : get_or (set s.counts r (length cs)) r 0 ≡ length cs = get_or-set_same s.counts r (length cs) 0 (omega (arith, p.counts_length)) in
@@ -286,11 +316,11 @@ other_stretch s r h total onw i ne =
     ap (λ z. walk after z (get_or (set s.sizes r total) i 0)) (get_or-set_other s.heads r i h 0 ne) ∙
     ap (walk after (get_or s.heads i 0)) (get_or-set_other s.sizes r i total 0 ne)
 
-pub shrunk : (s : Stored) (cs : List ℕ) (js : List (ℕ × ℕ)) (r : ℕ) (onw : List ℕ) (total : ℕ) (ps : List (Option ℕ)) (rg : List ℕ) (jn : List (ℕ × ℕ)) (ts : List ℕ)
+pub shrunk : (s : Stored) (cs : List ℕ) (js : List (ℕ × ℕ)) (r : ℕ) (onw pl : List ℕ) (total : ℕ) (ps : List (Option ℕ)) (rg : List ℕ) (jn : List (ℕ × ℕ)) (ts : List ℕ)
     → IsKept s → AreJoined (sets_of s) cs js → s.size ≤ r → r < 2 * s.size → get_or s.live r false ≡ false
-    → AreWritten s cs js r onw total ps rg jn ts
-    → IsShrunk (sets_of s) cs js r (sets_of (with_set s cs r onw total ps rg jn ts))
-shrunk s cs js r onw total ps rg jn ts p j least below free w =
+    → AreWritten s cs js r onw pl total ps rg jn ts
+    → IsShrunk (sets_of s) cs js r (sets_of (with_set s cs r onw pl total ps rg jn ts))
+shrunk s cs js r onw pl total ps rg jn ts p j least below free w =
     record {
       size = refl;
       value = λ i. refl;
@@ -307,8 +337,8 @@ shrunk s cs js r onw total ps rg jn ts p j least below free w =
             ap (λ z. has z m) (other_stretch s r _ total onw i ne ∙ keeps_all s cs js onw total p j w.hung i);
         parent_child = λ i h. w.parents i ∙ cond-true (has cs i) _ _ h;
         parent_others = λ i h. w.parents i ∙ cond-false (has cs i) _ _ h;
-        children_set = children_made s cs js r onw total ps rg jn ts p below j.tops.several w;
-        children_others = children_kept s cs js r onw total ps rg jn ts p j w;
+        children_set = children_made s cs js r onw pl total ps rg jn ts p below j.tops.several w;
+        children_others = children_kept s cs js r onw pl total ps rg jn ts p j w;
         top_inside = λ m h k. w.tops m ∙ cond-true _ _ _ (made_holds s cs js onw total p j w.hung m h ∙ k);
         top_others = λ m h k. w.tops m ∙ cond-false _ _ _ (made_holds s cs js onw total p j w.hung m h ∙ k);
       };
@@ -385,15 +415,69 @@ made_within s cs js onw total p j w b h = elim (cases_eq (b + 1) total) [
       subst (λ y. get_or (circle_of onw (get_or s.heads (get_or cs 0 0) 0) y) b 0 < length onw) (sym w.summed) (all b (omega (arith, ne, h, w.summed)))
 ]
 
-pub shrunk_kept : (s : Stored) (cs : List ℕ) (js : List (ℕ × ℕ)) (q : ℕ) (onw : List ℕ) (total : ℕ)
+-- the members of the new stretch stand once
+pub made_once : (s : Stored) (cs : List ℕ) (js : List (ℕ × ℕ)) (onw : List ℕ) (total : ℕ)
+    → IsKept s → AreJoined (sets_of s) cs js → AreHung s cs onw total → AreOnce (circle_of onw (get_or s.heads (get_or cs 0 0) 0) total)
+made_once s cs js onw total p j w =
+    let head : ℕ = get_or s.heads (get_or cs 0 0) 0 in
+    let count = length_ring onw head total in
+    let all : size_of s.size (has (circle_of onw head total)) ≡ size_of s.size (λ m. has cs (get_or s.tops m 0)) =
+    sum_same s.size _ _ (λ m hm. ap (λ (y : Bool). cond {A = ℕ} y 1 0) (made_holds s cs js onw total p j w m hm)) in
+    once s.size (circle_of onw head total)
+    (λ i h. omega (arith, made_within s cs js onw total p j w i (omega (arith, h, count)), w.same_length, p.onwards_length))
+    (omega (arith, count, all, w.summed, united_size s cs js p j))
+
+-- no member of an old set but its last is the last one of the last child
+not_last : (s : Stored) (cs : List ℕ) (js : List (ℕ × ℕ)) (i b : ℕ) → IsKept s → AreJoined (sets_of s) cs js → get_or s.live i false ≡ true
+    → b + 1 < get_or s.sizes i 0 → get_or (stretch_of s.onwards s.heads s.sizes i) b 0 ≢ get_or s.tails (get_or cs (length cs - 1) 0) 0
+not_last s cs js i b p j live h is =
+    let d : ℕ = get_or cs (length cs - 1) 0 in
+    let hd = has_at cs (length cs - 1) (omega (arith, j.tops.several)) in
+    let ld = j.tops.are_live d hd in
+    let dx : (sets_of s).holds d (get_or (stretch_of s.onwards s.heads s.sizes i) b 0) ≡ true = ap ((sets_of s).holds d) is ∙ tail_in s d p ld in
+    p.inner i d b live ld (λ m hm im. inside_top s d i _ m p (j.tops.below d hd) (j.tops.parentless d hd) (live_below s i p live)
+    (stretch_at s i b (omega arith)) dx hm im) h is
+
+-- the members of an old set have places one after another as before
+made_placed : (s : Stored) (cs : List ℕ) (js : List (ℕ × ℕ)) (onw pl : List ℕ) (total : ℕ)
+    → IsKept s → AreJoined (sets_of s) cs js → AreHung s cs onw total → AreNumbered s cs onw pl total
+    → (i b : ℕ) → get_or s.live i false ≡ true → b < get_or s.sizes i 0
+    → get_or pl (get_or (stretch_of s.onwards s.heads s.sizes i) b 0) 0 ≡ get_or pl (get_or s.heads i 0) 0 + b
+made_placed s cs js onw pl total p j w v i b live h =
+    let f : Sets = sets_of s in
+    let circle : List ℕ = circle_of onw (get_or s.heads (get_or cs 0 0) 0) total in
+    let x : ℕ = get_or s.heads i 0 in
+    let y : ℕ = get_or (stretch_of s.onwards s.heads s.sizes i) b 0 in
+    let ix : f.holds i x ≡ true = head_in s i p live in
+    let iy : f.holds i y ≡ true = stretch_at s i b h in
+    let hx : x < s.size = held_below s i x p ix in
+    let hy : y < s.size = held_below s i y p iy in
+    let up : f.top y ≡ f.top x = p.family.laminar.tops.top_shared i y x (live_below s i p live) hy hx iy ix in
+    let cx = made_holds s cs js onw total p j w x hx in
+    let cy = made_holds s cs js onw total p j w y hy in
+    elim (cases_Bool (has cs (f.top x))) [
+      | inr out ↦ v.outside y (cy ∙ ap (has cs) up ∙ out) ∙ p.placed i b live h ∙ ap (λ z. z + b) (sym (v.outside x (cx ∙ out)))
+      | inl in_new ↦
+          let r = place_in circle x (cx ∙ in_new) in
+          let at : r.0 < total = omega (arith, r.1, length_ring onw (get_or s.heads (get_or cs 0 0) 0) total) in
+          let keeps = keeps_all s cs js onw total p j w i in
+          let part = part_of (λ c. get_or onw c 0) x (get_or s.sizes i 0) (get_or s.heads (get_or cs 0 0) 0) total r.0
+          (get_or s.tails (get_or cs (length cs - 1) 0) 0) at r.2 (λ k e. made_last s cs js onw total p j w k e)
+          (λ k hk e. not_last s cs js i k p j live hk (sym (ap (λ z. get_or z k 0) keeps) ∙ e)) in
+          let is : get_or circle (r.0 + b) 0 ≡ y = part.same b h ∙ ap (λ z. get_or z b 0) keeps in
+          ap (λ z. get_or pl z 0) (sym is) ∙ v.inside (r.0 + b) (omega (arith, part.fits, h)) ∙
+          ap (λ z. z + b) (sym (v.inside r.0 at) ∙ ap (λ z. get_or pl z 0) r.2)
+    ]
+
+pub shrunk_kept : (s : Stored) (cs : List ℕ) (js : List (ℕ × ℕ)) (q : ℕ) (onw pl : List ℕ) (total : ℕ)
     → (ps : List (Option ℕ)) (rg : List ℕ) (jn : List (ℕ × ℕ)) (ts : List ℕ) → IsKept s
     → AreJoined (sets_of s) cs js → q < s.size → IsName s cs q
-    → AreWritten s cs js (s.size + q) onw total ps rg jn ts
-    → IsShrunk (sets_of s) cs js (s.size + q) (sets_of (with_set s cs (s.size + q) onw total ps rg jn ts))
-    → IsKept (with_set s cs (s.size + q) onw total ps rg jn ts)
-shrunk_kept s cs js q onw total ps rg jn ts p j lt name w t =
+    → AreWritten s cs js (s.size + q) onw pl total ps rg jn ts
+    → IsShrunk (sets_of s) cs js (s.size + q) (sets_of (with_set s cs (s.size + q) onw pl total ps rg jn ts))
+    → IsKept (with_set s cs (s.size + q) onw pl total ps rg jn ts)
+shrunk_kept s cs js q onw pl total ps rg jn ts p j lt name w t =
     let r : ℕ = s.size + q in
-    let new : Stored = with_set s cs r onw total ps rg jn ts in
+    let new : Stored = with_set s cs r onw pl total ps rg jn ts in
     let f : Sets = sets_of s in
     let g : Sets = sets_of new in
     let free : get_or s.live r false ≡ false = shrunk_free s cs js q p j name in
@@ -433,6 +517,7 @@ shrunk_kept s cs js q onw total ps rg jn ts p j lt name w t =
       tails_length = length-set s.tails r (get_or s.tails d 0) ∙ p.tails_length;
       sizes_length = length-set s.sizes r total ∙ p.sizes_length;
       onwards_length = w.hung.same_length ∙ p.onwards_length;
+      places_length = w.numbered.same_length ∙ p.places_length;
       values_length = p.values_length;
       parents_length = w.parents_length ∙ p.parents_length;
       firsts_length = length-set s.firsts r (get_or cs 0 0) ∙ p.firsts_length;
@@ -495,15 +580,26 @@ shrunk_kept s cs js q onw total ps rg jn ts p j lt name w t =
             let at : get_or (stretch_of onw new.heads new.sizes i) b 0 ≡ get_or (stretch_of s.onwards s.heads s.sizes i) b 0 = ap (λ y. get_or y b 0) (same i ne) in
             (elim (cases_eq k r) as (λ _. ⊥) [
               | inl ks ↦
-                  let is : get_or (stretch_of s.onwards s.heads s.sizes i) b 0 ≡ get_or s.tails d 0 =
-                  sym at ∙ e ∙ ap (λ y. get_or new.tails y 0) ks ∙ tail_made in
-                  let ld = j.tops.are_live d hd in
-                  let dx : f.holds d (get_or (stretch_of s.onwards s.heads s.sizes i) b 0) ≡ true = ap (f.holds d) is ∙ tail_in s d p ld in
-                  p.inner i d b li ld (λ m hm im. inside_top s d i _ m p (j.tops.below d hd) (j.tops.parentless d hd) (live_below s i p li)
-                  (stretch_at s i b (omega arith)) dx hm im) hb is
+                  not_last s cs js i b p j li hb (sym at ∙ e ∙ ap (λ y. get_or new.tails y 0) ks ∙ tail_made)
               | inr nk ↦ p.inner i k b li (was k nk lk) (λ m hm im. sym (ap (λ y. has y m) (same k nk)) ∙
                   sub m hm (ap (λ y. has y m) (same i ne) ∙ im)) hb (sym at ∙ e ∙ tail_other k nk)
             ])
+      ];
+      placed = λ i b l h. elim (cases_eq i r) [
+        | inl e ↦
+            let hb : b < total = omega (arith, h, ap (λ y. get_or new.sizes y 0) e, size_made) in
+            let first : get_or pl (first_head s cs) 0 ≡ 0 =
+            ap (λ y. get_or pl y 0) (sym (ring_first onw (first_head s cs) total (omega arith))) ∙ w.numbered.inside 0 (omega arith) in
+            ap (λ y. get_or pl (get_or (stretch_of onw new.heads new.sizes y) b 0) 0) e ∙ ap (λ y. get_or pl (get_or y b 0) 0) made ∙
+            w.numbered.inside b hb ∙ (let z : b ≡ get_or pl (get_or new.heads i 0) 0 + b = omega (
+              arith,
+              first,
+              ap (λ y. get_or pl (get_or new.heads y 0) 0) e,
+              ap (λ y. get_or pl y 0) (get_or-set_same s.heads r (first_head s cs) 0 (omega (arith, p.heads_length))),
+            ) in z)
+        | inr ne ↦ ap (λ y. get_or pl (get_or y b 0) 0) (same i ne) ∙
+            made_placed s cs js onw pl total p j w.hung w.numbered i b (was i ne l) (omega (arith, h, size_other i ne)) ∙
+            ap (λ y. get_or pl y 0 + b) (sym (get_or-set_other s.heads r i (first_head s cs) 0 ne))
       ];
       family = record {
         small = p.family.small;
@@ -596,20 +692,21 @@ are_hung s cs onw total heads tails sizes onwards eh et es eo summed same linked
       others = subst (Q s.tails) eo (subst (λ t. Q t onwards) et others);
     }
 
-pub shrink_answer : (s : Stored) (cs : List ℕ) (js : List (ℕ × ℕ)) (q head tail : ℕ) (onw onw' : List ℕ) (total : ℕ)
+pub shrink_answer : (s : Stored) (cs : List ℕ) (js : List (ℕ × ℕ)) (q head tail : ℕ) (onw onw' pl pl' : List ℕ) (total : ℕ)
     → (ps ps' : List (Option ℕ)) (rg : List ℕ) (jn jn' : List (ℕ × ℕ)) (ts ts' : List ℕ) → IsKept s
     → AreJoined (sets_of s) cs js → IsName s cs q → head ≡ first_head s cs → tail ≡ last_tail s cs
-    → AreWritten s cs js (s.size + q) onw total ps rg jn ts → onw' ≡ onw → ps' ≡ ps → jn' ≡ jn → ts' ≡ ts
-    → IsKept (with_ends s cs (s.size + q) head tail onw' total ps' rg jn' ts')
-    × IsShrunk (sets_of s) cs js (s.size + q) (sets_of (with_ends s cs (s.size + q) head tail onw' total ps' rg jn' ts'))
-shrink_answer s cs js q head tail onw onw' total ps ps' rg jn jn' ts ts' p j name eh el w eo ep ej et =
+    → AreWritten s cs js (s.size + q) onw pl total ps rg jn ts → onw' ≡ onw → pl' ≡ pl → ps' ≡ ps → jn' ≡ jn → ts' ≡ ts
+    → IsKept (with_ends s cs (s.size + q) head tail onw' pl' total ps' rg jn' ts')
+    × IsShrunk (sets_of s) cs js (s.size + q) (sets_of (with_ends s cs (s.size + q) head tail onw' pl' total ps' rg jn' ts'))
+shrink_answer s cs js q head tail onw onw' pl pl' total ps ps' rg jn jn' ts ts' p j name eh el w eo en ep ej et =
     let r : ℕ = s.size + q in
     let lt : q < s.size = name_below s cs q p name in
-    let P : ℕ → ℕ → List ℕ → List (Option ℕ) → List (ℕ × ℕ) → List ℕ → Type 0 = λ h l o a b c. IsKept (with_ends s cs r h l o total a rg b c) ×
-    IsShrunk (sets_of s) cs js r (sets_of (with_ends s cs r h l o total a rg b c)) in
-    let t = shrunk s cs js r onw total ps rg jn ts p j (let z : s.size ≤ r = omega arith in z)
+    let P : ℕ → ℕ → List ℕ → List ℕ → List (Option ℕ) → List (ℕ × ℕ) → List ℕ → Type 0 = λ h l o n a b c. IsKept (with_ends s cs r h l o n total a rg b c) ×
+    IsShrunk (sets_of s) cs js r (sets_of (with_ends s cs r h l o n total a rg b c)) in
+    let t = shrunk s cs js r onw pl total ps rg jn ts p j (let z : s.size ≤ r = omega arith in z)
     (let z : r < 2 * s.size = omega arith in z) (shrunk_free s cs js q p j name) w in
-    let both : P (first_head s cs) (last_tail s cs) onw ps jn ts = (shrunk_kept s cs js q onw total ps rg jn ts p j lt name w t, t) in
-    subst (λ z. P z tail onw' ps' jn' ts') (sym eh) (subst (λ z. P (first_head s cs) z onw' ps' jn' ts') (sym el)
-    (subst (λ z. P (first_head s cs) (last_tail s cs) onw' ps' jn' z) (sym et) (subst (λ z. P (first_head s cs) (last_tail s cs) onw' ps' z ts) (sym ej)
-    (subst (λ z. P (first_head s cs) (last_tail s cs) onw' z jn ts) (sym ep) (subst (λ z. P (first_head s cs) (last_tail s cs) z ps jn ts) (sym eo) both)))))
+    let both : P (first_head s cs) (last_tail s cs) onw pl ps jn ts = (shrunk_kept s cs js q onw pl total ps rg jn ts p j lt name w t, t) in
+    subst (λ z. P z tail onw' pl' ps' jn' ts') (sym eh) (subst (λ z. P (first_head s cs) z onw' pl' ps' jn' ts') (sym el)
+    (subst (λ z. P (first_head s cs) (last_tail s cs) onw' pl' ps' jn' z) (sym et) (subst (λ z. P (first_head s cs) (last_tail s cs) onw' pl' ps' z ts) (sym ej)
+    (subst (λ z. P (first_head s cs) (last_tail s cs) onw' pl' z jn ts) (sym ep) (subst (λ z. P (first_head s cs) (last_tail s cs) onw' z ps jn ts) (sym en)
+    (subst (λ z. P (first_head s cs) (last_tail s cs) z pl ps jn ts) (sym eo) both))))))

@@ -1,5 +1,5 @@
 -- How a family is kept: lists by the numbers of the sets, and one permutation for the rings of all sets.
-use Rattle.std.specs.Prelude.{◌≡◌, ◌≢◌, ℕ, ◌+◌, ◌*◌, ◌%◌, ◌<◌, zero, suc, Bool, true, false, Option, None, List, [], ◌∷◌, length, slice_index, slice_index_or}
+use Rattle.std.specs.Prelude.{◌≡◌, ◌≢◌, ℕ, ◌+◌, ◌*◌, ◌%◌, ◌<◌, ◌≤◌, zero, suc, Bool, true, false, Option, None, List, [], ◌∷◌, length, slice_index, slice_index_or}
 use Rattle.dpl_laminar.specs.Families.{Sets, IsFamily, has}
 use Rattle.dpl_laminar.specs.Loads.{size_of}
 
@@ -11,8 +11,9 @@ pub record Stored : Type 0 where
   pub heads : List ℕ
   pub tails : List ℕ
   pub sizes : List ℕ
-  -- by the members: the next one in the stretches that hold both
+  -- by the members: the next one in the stretches that hold both, and the place there
   pub onwards : List ℕ
+  pub places : List ℕ
   pub values : List ℕ
   pub parents : List (Option ℕ)
   -- one child of each set, and how many it has
@@ -66,6 +67,7 @@ pub record IsKept (s : Stored) : Type 0 where
   pub tails_length : length s.tails ≡ 2 * s.size
   pub sizes_length : length s.sizes ≡ 2 * s.size
   pub onwards_length : length s.onwards ≡ s.size
+  pub places_length : length s.places ≡ s.size
   pub values_length : length s.values ≡ 2 * s.size
   pub parents_length : length s.parents ≡ 2 * s.size
   pub firsts_length : length s.firsts ≡ 2 * s.size
@@ -86,6 +88,9 @@ pub record IsKept (s : Stored) : Type 0 where
       ((m : ℕ) → m < s.size → (sets_of s).holds i m ≡ true → (sets_of s).holds k m ≡ true) →
       j + 1 < slice_index s.sizes i →
       slice_index (stretch_of s.onwards s.heads s.sizes i) j ≢ slice_index s.tails k
+  -- the members of a set have places one after another
+  pub placed : (i j : ℕ) → slice_index_or s.live i false ≡ true → j < slice_index s.sizes i →
+      slice_index s.places (slice_index (stretch_of s.onwards s.heads s.sizes i) j) ≡ slice_index s.places (slice_index s.heads i) + j
   pub family : IsFamily (sets_of s)
 
 -- so many numbers from the first on are places of the list, all different, and the last one leads to the first
@@ -116,3 +121,10 @@ pub record IsNameOf (holds : ℕ → ℕ → Bool) (q x y : ℕ) : Type 0 where
   pub held : holds x q ≡ true
   pub least : (m : ℕ) → m < q → holds x m ≡ false
   pub less : (a : ℕ) × (a < q) × (holds y a ≡ true)
+
+-- a member has the top of the first one of so many, and stands less than so many places behind it
+pub record IsAmong (tops places : List ℕ) (head size m : ℕ) : Type 0 where
+  pub member : m < length tops
+  pub top : slice_index tops m ≡ slice_index tops head
+  pub from : slice_index places head ≤ slice_index places m
+  pub below : slice_index places m < slice_index places head + size

@@ -21,8 +21,9 @@ pub struct Family {
     heads: Vec<u32>,
     tails: Vec<u32>,
     sizes: Vec<usize>,
-    // From each member to the next one in the stretches that hold both.
+    // From each member to the next one in the stretches that hold both, and its place there.
     onwards: Vec<u32>,
+    places: Vec<u32>,
     values: Vec<u64>,
     parents: Vec<Option<u32>>,
     // One child of each set, and how many there are around.
@@ -47,6 +48,7 @@ impl Model for Family {
       tails = f.tails.items;
       sizes = f.sizes.items;
       onwards = f.onwards.items;
+      places = f.places.items;
       values = f.values.items;
       parents = f.parents.items;
       firsts = f.firsts.items;
@@ -63,6 +65,7 @@ impl Model for Family {
       tails = f.tails.items;
       sizes = f.sizes.items;
       onwards = f.onwards.items;
+      places = f.places.items;
       values = f.values.items;
       parents = f.parents.items;
       firsts = f.firsts.items;
@@ -86,6 +89,7 @@ impl Family {
         let tails = starting::ascending(alloc, 2 * size)?;
         let sizes = starting::ones_first(alloc, size)?;
         let onwards = starting::ascending(alloc, size)?;
+        let places = starting::filled(alloc, 0, size)?;
         let values = starting::filled(alloc, 0, 2 * size)?;
         let parents = starting::filled(alloc, None, 2 * size)?;
         let firsts = starting::filled(alloc, 0, 2 * size)?;
@@ -100,6 +104,7 @@ impl Family {
             tails,
             sizes,
             onwards,
+            places,
             values,
             parents,
             firsts,
@@ -139,6 +144,7 @@ impl Family {
         let tail = self.tails[children[children.len() - 1] as usize];
         let set = self.size + name as usize;
         stretches::link(&mut self.onwards, &self.heads, &self.tails, children);
+        stretches::number(&mut self.places, &self.onwards, head, total);
         releasing::lift(&mut self.tops, &self.onwards, head, total, set as u32);
         releasing::adopt(&mut self.parents, children, set as u32);
         releasing::join(&mut self.joins, children, joins);
@@ -232,7 +238,13 @@ impl Family {
         ensures { result ≡ (sets_of self.now).holds set member }
     {
         let at = set as usize;
-        stretches::is_in(&self.onwards, self.heads[at], self.sizes[at], member)
+        stretches::is_among(
+            &self.tops,
+            &self.places,
+            self.heads[at],
+            self.sizes[at],
+            member,
+        )
     }
 
     /// The value of a live set.

@@ -4,7 +4,7 @@
 ghost use Rattle.std.specs.Prelude.{◌≡◌, ◌≢◌, ℕ, ◌+◌, ◌<◌, ◌≤◌, ◌⊎◌, true, false, length, slice_index, IfOk};
 ghost use Rattle.std.specs.List.{sum_by};
 ghost use Rattle.dpl_laminar.specs.Families.{has, members_below};
-ghost use Rattle.dpl_laminar.specs.Storing.{circle_of, stretch_holds, AreBelow, IsWithin, IsNameOf};
+ghost use Rattle.dpl_laminar.specs.Storing.{circle_of, stretch_holds, AreBelow, AreOnce, IsAmong, IsWithin, IsNameOf};
 
 use std::alloc::{AllocError, Global};
 
@@ -56,6 +56,46 @@ pub fn least(onwards: &[u32], head: u32, size: usize) -> u32
         at = onwards[at as usize];
     }
     least
+}
+
+/// Whether a member stands in the stretch with this first member and so many members: under the same
+/// top, and less than so many places behind the first one.
+pub fn is_among(tops: &[u32], places: &[u32], head: u32, size: usize, member: u32) -> bool
+    requires head { head < length tops.now }
+    requires places { length places.now ≡ length tops.now }
+    ensures yes { result ≡ true → IsAmong tops.now places.now head size member }
+    ensures no { IsAmong tops.now places.now head size member → result ≡ true }
+{
+    let m = member as usize;
+    let first = head as usize;
+    if tops.len() <= m {
+        return false;
+    }
+    if tops[m] != tops[first] {
+        return false;
+    }
+    if places[m] < places[first] {
+        return false;
+    }
+    ((places[m] - places[first]) as usize) < size
+}
+
+/// Numbers the members of a stretch, from 0 on.
+pub fn number(places: &mut [u32], onwards: &[u32], head: u32, size: usize)
+    requires few { size ≤ 2048 }
+    requires places { length places.old ≡ length onwards.now }
+    requires within { IsWithin onwards.now head size }
+    requires once { AreOnce (circle_of onwards.now head size) }
+    ensures inside { (i : ℕ) → i < size →
+        slice_index places.new (slice_index (circle_of onwards.now head size) i) ≡ i }
+    ensures outside { (m : ℕ) → has (circle_of onwards.now head size) m ≡ false →
+        slice_index places.new m ≡ slice_index places.old m }
+{
+    let mut member = head;
+    for place in 0..size {
+        places[member as usize] = place as u32;
+        member = onwards[member as usize];
+    }
 }
 
 /// How many members these sets have together.

@@ -67,7 +67,7 @@ untie-requires-clause-circle g c =
 -- the lists as they were when the call began
 abbrev before : (g : given.Over) → goal.After-self-5-1 g → Stored
 before g c = stored c.self.inside.size c.self.inside.live.items c.self.inside.heads.items c.self.inside.tails.items
-    c.self.inside.sizes.items c.self.inside.onwards.items c.self.inside.values.items
+    c.self.inside.sizes.items c.self.inside.onwards.items c.self.inside.places.items c.self.inside.values.items
     c.self.inside.parents.items c.self.inside.firsts.items c.self.inside.counts.items c.self.inside.ring
     c.self.inside.joins.items c.self.inside.tops.items
 

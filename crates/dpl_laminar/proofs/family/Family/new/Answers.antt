@@ -8,6 +8,7 @@ start : (c : goal.In_ok-tops) → AreStart (record {
   tails = c.in_ok-tails.tails.items;
   sizes = c.in_ok-sizes.sizes.items;
   onwards = c.in_ok-onwards.onwards.items;
+  places = c.in_ok-places.places.items;
   values = c.in_ok-values.values.items;
   parents = c.in_ok-parents.parents.items;
   firsts =
@@ -29,6 +30,7 @@ start c = record {
   ones = c.in_ok-sizes.ensures.ones;
   none = c.in_ok-sizes.ensures.none;
   onwards_length = c.in_ok-onwards.ensures.length;
+  places = c.in_ok-places.ensures;
   values = c.in_ok-values.ensures;
   parents = c.in_ok-parents.ensures;
   firsts = c.in_ok-firsts.ensures;
