@@ -1,5 +1,5 @@
 -- A set holds the members whose places are those of its stretch, under its top.
-use Rattle.std.proofs.Common.{arith, ◌≡◌, ℕ, ◌+◌, ◌-◌, ◌<◌, ◌≤◌, sym, ap, ◌∙◌, true, false, length, get_or}
+use Rattle.std.proofs.Common.{arith, ◌≡◌, ℕ, ◌+◌, ◌-◌, ◌<◌, sym, ap, ◌∙◌, true, false, length, get_or}
 use Rattle.dpl_laminar.specs.Families.{Sets}
 use Rattle.dpl_laminar.specs.Storing.{Stored, sets_of, stretch_of, IsKept, IsAmong}
 use Rattle.dpl_laminar.proofs.Keeping.{live_below}

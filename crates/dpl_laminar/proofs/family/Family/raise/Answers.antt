@@ -5,6 +5,15 @@ use Rattle.dpl_laminar.specs.Storing.{Stored}
 use Rattle.dpl_laminar.proofs.Keeping.{raised_kept, live_below}
 use Rattle.dpl_laminar.proofs.family.Family.raise.Goals as goal
 
+pub shifted-raised-requires-clause-most : goal.shifted-raised-requires-clause-most
+shifted-raised-requires-clause-most g c =
+    let below = live_below _ c.args.set c.self.invariant (ap (λ (z : Stored). get_or z.live c.args.set false) c.self.view_is ∙ c.requires.live) in
+    let read : c.index.result.now ≡ get_or c.self.inside.values.items c.args.set 0 =
+    get_or_read c.self.inside.values.items c.args.set _ (omega (arith, below, c.self.invariant.values_length)) c.index.ensures 0 in
+    let was = ap (λ (z : Stored). get_or z.values c.args.set 0) c.self.view_is in
+    let fits = c.ranges.by in
+    rw (read, was) (simp to_z-of_z c.requires.most)
+
 pub invariant_of-self : goal.invariant_of-self
 invariant_of-self g c = raised_kept _ c.args.set c.shifted-raised.result c.self.invariant
     (ap (λ (z : Stored). get_or z.live c.args.set false) c.self.view_is ∙ c.requires.live)
