@@ -14,3 +14,4 @@ pub mod FactLemmas
 pub mod ConditionLaws
 pub mod FirstWrong
 pub mod RefusalLemmas
+pub mod BoundLemmas
