@@ -78,7 +78,7 @@ same_keys d x y keys is k = record {
 -- ---- the key of a set
 
 -- what is told of a set is no time before now
-fall_later : (x : State) (k : ℕ) → x.time ≤ never → x.time ≤ fall_of (sea_of x) (stack_of x.held) k
+pub fall_later : (x : State) (k : ℕ) → x.time ≤ never → x.time ≤ fall_of (sea_of x) (stack_of x.held) k
 fall_later x k h = elim (cases_Bool ((sea_of x).loss k == 1)) [
   | inl y ↦ omega (arith, cond-true {A = ℕ} ((sea_of x).loss k == 1) (x.time + span_of (sea_of x) (stack_of x.held) k) never y)
   | inr n ↦ omega (arith, cond-false {A = ℕ} ((sea_of x).loss k == 1) (x.time + span_of (sea_of x) (stack_of x.held) k) never n, h)

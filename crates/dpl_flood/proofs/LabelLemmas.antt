@@ -24,7 +24,7 @@ abbrev pub relabelled : State → State → Sea
 relabelled x y = changed (sea_of x) (sets_of x.family) (gains_in (place_in y.labels.items)) (losses_in (place_in y.labels.items))
     (λ k. get_or y.rests.items k false)
 
-relabelled_sea : (x y : State) → IsRelabelled x y → sea_of y ≡ relabelled x y
+pub relabelled_sea : (x y : State) → IsRelabelled x y → sea_of y ≡ relabelled x y
 relabelled_sea x y r = λ z. record {
   sets = sets_of (r.family z);
   point = point_of (r.arena z) (r.held z);

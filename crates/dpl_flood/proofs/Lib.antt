@@ -27,3 +27,5 @@ pub mod PassLemmas
 mod ClockLemmas
 mod ComeLemmas
 mod LabelLemmas
+mod BeginLemmas
+mod TurnLemmas

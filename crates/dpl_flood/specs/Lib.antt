@@ -11,3 +11,4 @@ pub mod Standings
 pub mod States
 pub mod StateLaws
 pub mod Events
+pub mod Starts

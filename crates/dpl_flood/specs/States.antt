@@ -1,5 +1,5 @@
 -- The state of moats that grow, and the keys of ways and sets.
-use Rattle.std.specs.Prelude.{◌≡◌, ◌≢◌, ℕ, ◌+◌, ◌*◌, ◌%◌, ◌^◌, ◌<◌, ◌≤◌, ◌==◌, if◌then◌else◌, false, Some, List, ◌∷◌, length, slice_index, slice_index_or, All}
+use Rattle.std.specs.Prelude.{◌≡◌, ◌≢◌, ℕ, ◌+◌, ◌*◌, ◌%◌, ◌^◌, ◌<◌, ◌≤◌, ◌==◌, ◌⊎◌, if◌then◌else◌, false, Some, List, ◌∷◌, length, slice_index, slice_index_or, All}
 use Rattle.dpl_laminar.specs.Storing.{sets_of}
 use Rattle.dpl_dual.specs.declared.crosses.Dual.{Dual}
 use Rattle.dpl_dual.specs.Chains.{IsAt}
@@ -7,6 +7,7 @@ use Rattle.dpl_dual.specs.Duals.{way_at}
 use Rattle.dpl_tree.specs.Views.{place_in}
 use Rattle.dpl_pack.specs.Nests.{inner_of}
 use Rattle.dpl_pack.specs.Points.{water, on}
+use Rattle.dpl_pack.specs.Tides.{place_of}
 use Rattle.dpl_flood.specs.declared.state.State.{State}
 use Rattle.dpl_flood.specs.declared.ways.Step.{Step}
 use Rattle.dpl_flood.specs.Arenas.{AreNodes, node_at}
@@ -71,6 +72,13 @@ pub record AreKeyedAround (d : Dual) (s : Sea) (face : ℕ) (old new : List ℕ)
   pub sizes : length new ≡ length old
   pub at : (w : ℕ) → IsWayFrom d face w → slice_index new w ≡ due_of d s never w
   pub others : (p : ℕ) → (IsWayFrom d face p → ⊥) → slice_index new p ≡ slice_index old p
+
+-- The keys of the ways from the first faces, as far as these stand on a top, are set anew: they are what is due there. Each other key
+-- is as it was, or what is due too.
+pub record AreKeyedOn (d : Dual) (s : Sea) (top count : ℕ) (old new : List ℕ) : Type 0 where
+  pub sizes : length new ≡ length old
+  pub at : (g w : ℕ) → g < count → place_of s.sets (s.point g) ≡ top → IsWayFrom d g w → slice_index new w ≡ due_of d s never w
+  pub others : (p : ℕ) → (slice_index new p ≡ slice_index old p) ⊎ ((p < length d.crosses) × (slice_index new p ≡ due_of d s never p))
 
 -- the keys of sets stand behind those of the ways
 abbrev pub top_keys : Dual → List ℕ → ℕ → ℕ

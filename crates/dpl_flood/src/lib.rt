@@ -13,6 +13,7 @@
 #![tactic(auto)]
 
 mod arena;
+mod beginning;
 mod chains;
 mod coming;
 mod event;
@@ -30,9 +31,11 @@ mod standing;
 mod state;
 #[cfg(test)]
 mod tests;
+mod turning;
 mod ways;
 
 pub use arena::Arena;
+pub use beginning::first_keys;
 pub use chains::{chains_stay, joins_lead, steps_are};
 pub use coming::next;
 pub use event::{Crossing, Event};
@@ -41,14 +44,15 @@ pub use laws::{
     events_keep_seas, keys_tell_events, names_keep_time, stacks_tell_falls, states_keep_keys,
     time_keeps_seas, trees_move_tops,
 };
-pub use looks::{look_around, look_set, look_way};
+pub use looks::{look_around, look_set, look_top, look_way};
 pub use nodes::{Join, Last, Node};
 pub use passing::advance;
 pub use queue::Queue;
-pub use relabelling::{cease, grow, thaw};
-pub use shifting::{reach, retreat};
+pub use relabelling::{cease, grow, rouse};
+pub use shifting::{reach, retreat, shift};
 pub use shores::{leave, take};
 pub use standing::{Standing, due};
 pub use state::State;
 pub use std::alloc::AllocError as NoMemory;
+pub use turning::{enter, thaw};
 pub use ways::{Step, steps_at};

@@ -6,7 +6,7 @@ ghost use Rattle.dpl_flood.specs.Dues.{AreLooked};
 ghost use Rattle.dpl_flood.specs.Holdings.{stack_of};
 ghost use Rattle.dpl_flood.specs.Queues.{never};
 ghost use Rattle.dpl_flood.specs.Seas.{sides_of, tide_of, due_of};
-ghost use Rattle.dpl_flood.specs.States.{IsState, sea_of, fall_of, AreKeyed, AreKeyedAround};
+ghost use Rattle.dpl_flood.specs.States.{IsState, sea_of, fall_of, AreKeyed, AreKeyedAround, AreKeyedOn};
 ghost use Rattle.dpl_flood.specs.Steps.{step_rows};
 
 use crate::queue::Queue;
@@ -39,6 +39,21 @@ pub fn look_around(state: &State, dual: &Dual, steps: &Grouped<Step>, queue: &mu
         state.now.time (λ g. g == face) (slice_index queue.old) (slice_index queue.new) }
 {
     look_over(state, dual, steps.row(face as usize), queue);
+}
+
+/// Sets the keys of all ways at the faces of a top anew. It costs the faces of the dual, and the ways at those of the top.
+pub fn look_top(state: &State, dual: &Dual, steps: &Grouped<Step>, queue: &mut Queue, top: u32)
+    requires state { IsState dual.now state.now }
+    requires steps { steps.now ≡ step_rows dual.now.crosses dual.now.faces }
+    requires top { top < 2 * (sets_of state.now.family).size }
+    requires places { length dual.now.crosses ≤ length queue.old }
+    ensures keys { AreKeyedOn dual.now (sea_of state.now) top dual.now.faces queue.old queue.new }
+{
+    for face in 0..dual.faces {
+        if state.is_on(face, top) {
+            look_around(state, dual, steps, queue, face);
+        }
+    }
 }
 
 /// Sets the key of a way anew.

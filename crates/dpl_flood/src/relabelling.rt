@@ -1,6 +1,6 @@
 //! Tops begin to grow or to fall, stand still and rest. No moat moves.
 
-ghost use Rattle.std.specs.Prelude.{◌≡◌, ℕ, ◌*◌, ◌<◌, false, List, length, slice_index_or};
+ghost use Rattle.std.specs.Prelude.{◌≡◌, ◌≢◌, ℕ, ◌*◌, ◌<◌, false, List, slice_index_or};
 ghost use Rattle.dpl_laminar.specs.Storing.{sets_of};
 ghost use Rattle.dpl_dual.specs.declared.crosses.Dual.{Dual};
 ghost use Rattle.dpl_tree.specs.Views.{place_in};
@@ -40,23 +40,16 @@ pub fn cease(state: &mut State, set: u32)
     state.rests[set as usize] = true;
 }
 
-/// No set rests any more.
-fn wake(rests: &mut [bool])
-    ensures awake { (k : ℕ) → slice_index_or rests.new k false ≡ false }
-    ensures count { length rests.new ≡ length rests.old }
-{
-    for i in 0..rests.len() {
-        rests[i] = false;
-    }
-}
-
-/// What rests may be entered again.
-pub fn thaw(state: &mut State)
+/// A set rests no more.
+pub fn rouse(state: &mut State, set: u32)
     requires state { (d : Dual) × IsState d state.old }
+    requires set { set < 2 * (sets_of state.old.family).size }
     ensures labels { state.new.labels ≡ state.old.labels }
-    ensures awake { (k : ℕ) → slice_index_or state.new.rests.items k false ≡ false }
+    ensures awake { slice_index_or state.new.rests.items set false ≡ false }
+    ensures others { (k : ℕ) → k ≢ set →
+        slice_index_or state.new.rests.items k false ≡ slice_index_or state.old.rests.items k false }
     ensures rest { IsRelabelled state.old state.new }
     ensures state { (d : Dual) → IsState d state.old → IsState d state.new }
 {
-    wake(&mut state.rests);
+    state.rests[set as usize] = false;
 }

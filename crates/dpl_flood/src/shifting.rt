@@ -2,11 +2,11 @@
 
 ghost use Rattle.std.specs.Prelude.{◌≡◌, ℕ, OnOk, OnErr};
 ghost use Rattle.dpl_dual.specs.declared.crosses.Dual.{Dual};
-ghost use Rattle.dpl_flood.specs.Events.{Reaches, Shrinks};
+ghost use Rattle.dpl_flood.specs.Events.{HasCome, Reaches, Shrinks};
 ghost use Rattle.dpl_flood.specs.States.{IsState, AreKeys, IsTaken, IsLeft, sea_of};
 ghost use Rattle.dpl_flood.specs.Steps.{step_rows};
 
-use crate::event::Crossing;
+use crate::event::{Crossing, Event};
 use crate::looks::look_around;
 use crate::queue::Queue;
 use crate::shores::{leave, take};
@@ -50,4 +50,32 @@ pub fn retreat(state: &mut State, dual: &Dual, steps: &Grouped<Step>, queue: &mu
 {
     let face = leave(state, set);
     look_around(state, dual, steps, queue, face);
+}
+
+/// Takes the face that was reached, or leaves the one that a top has come down to. Other events are left as they are.
+pub fn shift(
+    state: &mut State,
+    dual: &Dual,
+    steps: &Grouped<Step>,
+    queue: &mut Queue,
+    event: Event,
+) -> Result<(), AllocError>
+    requires state { IsState dual.now state.old }
+    requires keys { AreKeys dual.now state.old queue.old }
+    requires steps { steps.now ≡ step_rows dual.now.crosses dual.now.faces }
+    requires come { HasCome dual.now state.old event }
+    ensures state { IsState dual.now state.new }
+    ensures keys { AreKeys dual.now state.new queue.new }
+{
+    match event {
+        Event::Take(ahead) => {
+            reach(state, dual, steps, queue, ahead)?;
+            Ok(())
+        }
+        Event::Leave(set) => {
+            retreat(state, dual, steps, queue, set);
+            Ok(())
+        }
+        _ => Ok(()),
+    }
 }

@@ -1,9 +1,10 @@
 //! What moats are at one moment, as a program keeps them.
 
-ghost use Rattle.std.specs.Prelude.{◌≡◌, ◌<◌, ◌*◌, true, false, length, slice_index, slice_index_or};
+ghost use Rattle.std.specs.Prelude.{◌≡◌, ◌<◌, ◌*◌, ◌==◌, true, false, length, slice_index, slice_index_or};
 ghost use Rattle.dpl_laminar.specs.Storing.{sets_of};
 ghost use Rattle.dpl_dual.specs.declared.crosses.Dual.{Dual};
 ghost use Rattle.dpl_tree.specs.declared.tree.Label.TheVariants.{Free};
+ghost use Rattle.dpl_pack.specs.Tides.{place_of};
 ghost use Rattle.dpl_flood.specs.Holdings.{stack_of};
 ghost use Rattle.dpl_flood.specs.Queues.{never};
 ghost use Rattle.dpl_flood.specs.Seas.{due_of, span_of, span_at};
@@ -45,7 +46,7 @@ impl State {
     }
 
     /// Whether a set rests.
-    fn is_resting(&self, set: u32) -> bool
+    pub fn is_resting(&self, set: u32) -> bool
         requires { set < length self.now.rests.items }
         ensures { result ≡ slice_index_or self.now.rests.items set false }
     {
@@ -87,6 +88,18 @@ impl State {
                 Some(self.standing_on(node.member, node.far))
             }
             None => None,
+        }
+    }
+
+    /// Whether a face stands on a top.
+    pub fn is_on(&self, face: u32, top: u32) -> bool
+        requires state { (d : Dual) × IsState d self.now }
+        requires top { top < 2 * (sets_of self.now.family).size }
+        ensures { result ≡ (place_of (sets_of self.now.family) ((sea_of self.now).point face) == top) }
+    {
+        match self.standing(face) {
+            Some(standing) => standing.top == top,
+            None => false,
         }
     }
 

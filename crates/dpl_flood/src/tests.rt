@@ -1,9 +1,12 @@
 //! Small cases by hand.
 
 ghost use Rattle.std.specs.Prelude.{◌≡◌, ◌<◌, IfOk, length};
+ghost use Rattle.dpl_flood.specs.Starts.{AreSeats};
+ghost use Rattle.dpl_flood.specs.States.{IsGround};
 
-use crate::{Arena, Held, Join, NoMemory, Queue, steps_at};
-use dpl_dual::Cross;
+use crate::{Arena, Held, Join, NoMemory, Queue, State, first_keys, steps_at};
+use dpl_dual::{Cross, Dual, Rows};
+use dpl_list::{Grouped, Items};
 use std::alloc::Global;
 
 fn way(f: u32, g: u32, length: u64) -> Cross
@@ -18,7 +21,7 @@ fn way(f: u32, g: u32, length: u64) -> Cross
 }
 
 /// The first key of five places, and its place, before and after one of them is set anew.
-fn first_keys(alloc: Global) -> Result<(u64, usize, u64, usize), NoMemory> {
+fn least_keys(alloc: Global) -> Result<(u64, usize, u64, usize), NoMemory> {
     let mut queue = Queue::new(alloc, 5)?;
     queue.set(3, 40);
     queue.set(1, 20);
@@ -30,7 +33,7 @@ fn first_keys(alloc: Global) -> Result<(u64, usize, u64, usize), NoMemory> {
 
 #[test]
 fn the_least_key_is_found(rt: HostRuntime) -> Result<(), NoMemory> {
-    let found = first_keys(rt.alloc())?;
+    let found = least_keys(rt.alloc())?;
     assert_eq!(rt; found, (20, 1, 30, 4));
     Ok(())
 }
@@ -101,5 +104,70 @@ fn a_join_has_the_ways_between_its_seats(rt: HostRuntime) -> Result<(), NoMemory
     let found = joined_ways(rt.alloc())?;
     let wanted: &[u32] = &[0, 1];
     assert_eq!(rt; found.as_slice(), wanted);
+    Ok(())
+}
+
+/// A row of four faces, the first and the last of them odd, with ways of these lengths between neighbours.
+fn row_of_faces(alloc: Global) -> Result<Dual, NoMemory>
+    ensures ground { IfOk result IsGround }
+    ensures faces { IfOk result (λ d. d.faces ≡ 4) }
+    ensures seats { IfOk result (λ d. AreSeats d d.odd) }
+{
+    let ways = [
+        Cross {
+            f: 0,
+            g: 1,
+            edge: 0,
+            length: 2,
+        },
+        Cross {
+            f: 1,
+            g: 2,
+            edge: 1,
+            length: 4,
+        },
+        Cross {
+            f: 2,
+            g: 3,
+            edge: 2,
+            length: 2,
+        },
+    ];
+    let ends: &[u32] = &[0, 3];
+    let same: &[u32] = &[0, 0, 0, 0];
+    let crosses = Items::new(Vec::from_slice(alloc, &ways)?);
+    let odd = Items::new(Vec::from_slice(alloc, ends)?);
+    let part = Items::new(Vec::from_slice(alloc, same)?);
+    let by_face = Grouped::by_key(alloc, 4, &[], &[])?;
+    Ok(Dual {
+        faces: 4,
+        crosses,
+        odd,
+        part,
+        rows: Rows {
+            by_face,
+            least: 2,
+            greatest: 4,
+        },
+    })
+}
+
+/// The first key of a row of four faces at the beginning, and how many keys there are.
+fn key_at_first(alloc: Global) -> Result<(u64, usize), NoMemory> {
+    let dual = row_of_faces(alloc)?;
+    let steps = steps_at(alloc, dual.crosses.as_slice(), dual.faces)?;
+    let state = State::start(alloc, &dual, dual.odd.as_slice())?;
+    let queue = first_keys(alloc, &state, &dual, &steps)?;
+    let count = queue.len();
+    if count == 0 {
+        return Ok((0, 0));
+    }
+    Ok((queue.first(), count))
+}
+
+#[test]
+fn seats_tell_the_first_keys(rt: HostRuntime) -> Result<(), NoMemory> {
+    let keys = key_at_first(rt.alloc())?;
+    assert_eq!(rt; keys, (2, 7));
     Ok(())
 }

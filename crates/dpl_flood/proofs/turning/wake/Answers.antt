@@ -1,0 +1,7 @@
+use Rattle.dpl_flood.proofs.TurnLemmas.{roused_keys}
+use Rattle.dpl_flood.proofs.turning.wake.Goals as goal
+
+pub returns-clause-keys : goal.returns-clause-keys
+returns-clause-keys c = roused_keys c.args.dual.now c.args.state.now c.rouse.new.state c.args.set c.args.queue.now c.look_top.new.queue
+    c.requires.state (c.rouse.ensures.state c.args.dual.now c.requires.state) c.rouse.ensures.rest c.rouse.ensures.labels c.rouse.ensures.others
+    c.look_top.ensures.keys c.requires.keys

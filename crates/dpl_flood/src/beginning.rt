@@ -1,0 +1,123 @@
+//! The beginning: each odd face is the seat of a member, which is a single without a value and the root of a tree.
+
+ghost use Rattle.std.specs.Prelude.{◌≡◌, ℕ, ◌+◌, ◌*◌, ◌<◌, ◌≤◌, ◌^◌, Some, None, [], List, All, IfOk, length, slice_index, slice_index_or, replicate};
+ghost use Rattle.dpl_laminar.specs.Storing.{sets_of, AreOnce};
+ghost use Rattle.dpl_tree.specs.declared.tree.Label.TheVariants.{Free};
+ghost use Rattle.dpl_flood.specs.Holdings.{node_of};
+ghost use Rattle.dpl_flood.specs.Queues.{never};
+ghost use Rattle.dpl_flood.specs.Starts.{AreSeats, AreSeated, AreFirst, HasBegun, first_label};
+ghost use Rattle.dpl_flood.specs.States.{AreKeys, IsGround, sea_of};
+ghost use Rattle.dpl_flood.specs.Steps.{step_rows};
+
+use crate::arena::Arena;
+use crate::held::Held;
+use crate::looks::look_around;
+use crate::queue::Queue;
+use crate::state::State;
+use crate::ways::Step;
+use dpl_dual::Dual;
+use dpl_laminar::Family;
+use dpl_list::{Grouped, Items};
+use dpl_tree::Label;
+use std::alloc::{AllocError, Global};
+
+/// Seats a member at each of these faces.
+fn seat_all(arena: &mut Arena, held: &mut Held, faces: &[u32]) -> Result<(), AllocError>
+    requires places { All (λ g. g < length held.old.nodes) faces.now }
+    requires once { AreOnce faces.now }
+    requires blank { arena.old ≡ [] }
+    requires open { (g : ℕ) → node_of held.old g ≡ None }
+    ensures { IfOk result (λ _. AreSeated faces.now (length faces.now) held.old arena.new held.new) }
+{
+    for i in 0..faces.len() {
+        let node = arena.seat(faces[i])?;
+        held.seat(faces[i], node);
+    }
+    Ok(())
+}
+
+/// How the set of a number stands at first.
+fn first_label(size: usize, set: usize) -> Label
+    ensures { result ≡ first_label size set }
+{
+    if set < size {
+        Label::Outer
+    } else {
+        Label::Free
+    }
+}
+
+/// How the sets stand at first: single members are roots of trees.
+fn first_labels(alloc: Global, size: usize) -> Result<Vec<Label>, AllocError>
+    requires { size ≤ 2048 }
+    ensures length { IfOk result (λ labels. length labels.items ≡ 2 * size) }
+    ensures each { IfOk result (λ labels. (k : ℕ) → k < 2 * size →
+        slice_index_or labels.items k Free ≡ first_label size k) }
+{
+    let mut labels = Vec::new(alloc);
+    for i in 0..2 * size {
+        labels.push(first_label(size, i))?;
+    }
+    Ok(labels)
+}
+
+impl State {
+    /// The beginning: a member for each of these faces, at time 0. It costs the faces of the dual and the square of the members.
+    pub fn start(alloc: Global, dual: &Dual, faces: &[u32]) -> Result<State, AllocError>
+        requires ground { IsGround dual.now }
+        requires seats { AreSeats dual.now faces.now }
+        ensures begun { IfOk result (HasBegun dual.now) }
+        ensures seats { IfOk result (λ x. x.seats ≡ faces.now) }
+    {
+        let size = faces.len();
+        let mut arena = Arena::new(alloc, dual.faces)?;
+        let mut held = Held::new(alloc, dual.faces as usize, 2 * size)?;
+        seat_all(&mut arena, &mut held, faces)?;
+        let family = Family::new(alloc, size as u32)?;
+        let labels = first_labels(alloc, size)?;
+        let rests = vec![in alloc; false; 2 * size]?;
+        let inners = vec![in alloc; 0; size]?;
+        let seats = Items::new(Vec::from_slice(alloc, faces)?);
+        Ok(State {
+            family,
+            seats,
+            labels,
+            rests,
+            inners,
+            held,
+            arena,
+            time: 0,
+        })
+    }
+}
+
+/// Sets the keys of the ways at these faces anew.
+fn look_at_all(state: &State, dual: &Dual, steps: &Grouped<Step>, faces: &[u32], queue: &mut Queue)
+    requires begun { HasBegun dual.now state.now }
+    requires steps { steps.now ≡ step_rows dual.now.crosses dual.now.faces }
+    requires faces { All (λ g. g < dual.now.faces) faces.now }
+    requires places { length dual.now.crosses ≤ length queue.old }
+    ensures { AreFirst dual.now (sea_of state.now) faces.now (length faces.now) queue.old queue.new }
+{
+    for i in 0..faces.len() {
+        look_around(state, dual, steps, queue, faces[i]);
+    }
+}
+
+/// The keys at the beginning: those of the ways at seats. It costs the ways.
+pub fn first_keys(
+    alloc: Global,
+    state: &State,
+    dual: &Dual,
+    steps: &Grouped<Step>,
+) -> Result<Queue, AllocError>
+    requires begun { HasBegun dual.now state.now }
+    requires steps { steps.now ≡ step_rows dual.now.crosses dual.now.faces }
+    ensures { IfOk result (λ q. AreKeys dual.now state.now q) }
+{
+    let ways = dual.crosses.as_slice().len();
+    let faces = state.seats.as_slice();
+    let mut queue = Queue::new(alloc, ways + 2 * faces.len())?;
+    look_at_all(state, dual, steps, faces, &mut queue);
+    Ok(queue)
+}
