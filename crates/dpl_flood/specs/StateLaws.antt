@@ -33,7 +33,7 @@ pub record ArePassedOver (x y : State) (t : ℕ) (v : ℕ → ℕ) : Type 0 wher
   pub seats : y.seats ≡ x.seats
   pub held : y.held ≡ x.held
   pub arena : y.arena ≡ x.arena
-  pub labels : length y.labels.items ≡ length x.labels.items
+  pub labels : length y.tree.labels.items ≡ length x.tree.labels.items
   pub rests : length y.rests.items ≡ length x.rests.items
   pub inners : y.inners.items ≡ x.inners.items
 

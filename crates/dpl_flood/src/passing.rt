@@ -94,7 +94,7 @@ fn pass<L: Ledger>(state: &mut State, time: u64, steps: &mut Steps<L>)
     ensures steps { steps.new ≤ steps.old + 2 * (sets_of state.old.family).size }
 {
     let span = time - state.time;
-    pass_all(&mut state.family, &state.labels, span, steps);
+    pass_all(&mut state.family, &state.tree.labels, span, steps);
     state.time = time;
 }
 
