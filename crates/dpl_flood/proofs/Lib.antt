@@ -2,6 +2,7 @@ mod TreeLemmas
 mod KeyLemmas
 mod ArenaLemmas
 mod JoinLemmas
+mod NotedLemmas
 mod StepLemmas
 pub mod DueLemmas
 pub mod ShoreLemmas

@@ -1,5 +1,6 @@
 pub mod Queues
 pub mod Arenas
+pub mod Joins
 pub mod Steps
 pub mod Dues
 pub mod Seas

@@ -8,8 +8,8 @@
 //!
 //! `Queue` has a key for each place and answers the least one. `Arena` keeps chains for good: a node is the last way of a
 //! chain from the seat of a member to a face, and nodes are only added. A `Join` is two such chains and a way between
-//! them, so it is a chain from seat to seat. `steps_at` gives the ways at each face, with their numbers. No program runs
-//! on this crate yet.
+//! them, so it is a chain from seat to seat. `Joins` has one for any two members that are joined. `steps_at` gives the
+//! ways at each face, with their numbers. No program runs on this crate yet.
 #![tactic(auto)]
 
 mod arena;
@@ -18,6 +18,7 @@ mod chains;
 mod coming;
 mod event;
 mod held;
+mod joins;
 mod laws;
 mod looks;
 mod nodes;
@@ -40,6 +41,7 @@ pub use chains::{chains_stay, joins_lead, steps_are};
 pub use coming::next;
 pub use event::{Crossing, Event};
 pub use held::Held;
+pub use joins::{Joins, joins_stay};
 pub use laws::{
     events_keep_seas, keys_tell_events, names_keep_time, stacks_tell_falls, states_keep_keys,
     time_keeps_seas, trees_move_tops,
