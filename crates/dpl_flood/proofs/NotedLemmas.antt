@@ -1,15 +1,19 @@
 -- What members have after a join was noted.
-use Rattle.std.proofs.Common.{arith, ◌≡◌, ◌≢◌, ℕ, ◌<◌, ◌≤◌, refl, sym, ap, ◌∙◌, subst, inl, inr, ◌⊎◌, true, false, cond, ◌&&◌, ◌==◌, Option, Some, None, List}
+use Rattle.std.proofs.Common.{arith, ◌≡◌, ◌≢◌, ℕ, ◌+◌, ◌*◌, ◌<◌, ◌≤◌, refl, sym, ap, ◌∙◌, subst, inl, inr, ◌⊎◌, Bool, true, false, cond, ◌&&◌, ◌==◌, Option, Some, None, List, length}
 use Rattle.std.specs.Prelude.{option_map, nat_lt}
 use Rattle.std.proofs.lemmas.Bool.{cases_eq, cases_lt, cond-true, cond-false, lt-ltb, le-ltb, eq-eqb, ne_eqb}
 use Rattle.std.proofs.Math.Bool.{and-false}
 use Rattle.std.specs.Map.{lookup}
+use Rattle.std.specs.Option.{option_map_or}
+use Rattle.dpl_laminar.specs.Families.{Sets, load_of}
+use Rattle.dpl_laminar.specs.Loads.{differ}
+use Rattle.dpl_laminar.proofs.Sums.{sum_same}
 use Rattle.dpl_dual.specs.declared.crosses.Cross.{Cross}
 use Rattle.dpl_flood.specs.declared.nodes.Node.{Node}
 use Rattle.dpl_flood.specs.declared.nodes.Join.{Join}
-use Rattle.dpl_flood.specs.Arenas.{node_at, IsLonger, IsJoin, start_of, end_of, turned}
-use Rattle.dpl_flood.specs.Joins.{Entries, is_pair, join_at, IsBetween, AreJoins, IsNoted}
-use Rattle.dpl_flood.proofs.ArenaLemmas.{over_back, same_node}
+use Rattle.dpl_flood.specs.Arenas.{node_at, IsLonger, IsJoin, start_of, end_of, turned, join_length}
+use Rattle.dpl_flood.specs.Joins.{Entries, is_pair, join_at, IsBetween, AreJoins, IsNoted, IsTied, HaveSeats, dist_in}
+use Rattle.dpl_flood.proofs.ArenaLemmas.{over_back, same_node, length_longer}
 use Rattle.dpl_flood.proofs.JoinLemmas.{join_stays}
 
 -- what stands at a pair is set, and all else stays
@@ -117,3 +121,53 @@ joins_longer ways old new joins more all a b j e =
       start = ap (λ z. z.member) (same_node old new j.first more was.join.first) ∙ was.start;
       end = ap (λ z. z.member) (same_node old new j.second more was.join.second) ∙ was.end;
     }
+
+-- ---- how far members are
+
+-- the loads of two members are the same from both
+load_back : (f : Sets) (a b : ℕ) → load_of f a b ≡ load_of f b a
+load_back f a b = sum_same (2 * f.size) _ _ (λ k h. ap (λ z. cond z (f.value k) 0) (either (f.holds k a) (f.holds k b))) where
+  either : (x y : Bool) → differ x y ≡ differ y x
+  either true true = refl
+  either true false = refl
+  either false true = refl
+  either false false = refl
+
+pub far_back : (ways : List Cross) (nodes : List Node) (joins : Entries) (f : Sets) (a b : ℕ) → dist_in ways nodes joins f a b ≡ dist_in ways nodes joins f b a
+far_back ways nodes joins f a b = elim (cases_eq a b) [
+  | inl e ↦ ap (dist_in ways nodes joins f a) (sym e) ∙ ap (λ z. dist_in ways nodes joins f z a) e
+  | inr ne ↦
+      let more : load_of f a b + 1 ≡ load_of f b a + 1 = ap (λ z. z + 1) (load_back f a b) in
+      ap (option_map_or (join_length ways nodes) (join_at joins a b)) more
+      ∙ turned_long (join_at joins a b) (load_of f b a + 1)
+      ∙ ap (λ z. option_map_or (join_length ways nodes) z (load_of f b a + 1)) (sym (back_at joins a b ne))
+] where
+  turned_long : (o : Option Join) (more : ℕ) → option_map_or (join_length ways nodes) o more ≡ option_map_or (join_length ways nodes) (option_map turned o) more
+  turned_long None more = refl
+  turned_long (Some j) more = omega arith
+
+pub far_longer : (ways : List Cross) (old new : List Node) (joins : Entries) (f : Sets) (a b : ℕ) → IsLonger old new → AreJoins ways old joins
+    → dist_in ways new joins f a b ≡ dist_in ways old joins f a b
+far_longer ways old new joins f a b more all = by (join_at joins a b) refl where
+  by : (o : Option Join) → join_at joins a b ≡ o → option_map_or (join_length ways new) o (load_of f a b + 1) ≡ option_map_or (join_length ways old) o (load_of f a b + 1)
+  by None e = refl
+  by (Some j) e =
+      let is = (all a b j e).join in
+      omega (
+        arith,
+        ap (λ z. z.far) (same_node old new j.first more is.first),
+        ap (λ z. z.far) (same_node old new j.second more is.second),
+      )
+
+-- who are as far from each other as their load have a join
+pub tied : (ways : List Cross) (nodes : List Node) (joins : Entries) (f : Sets) (a b : ℕ) → load_of f a b ≡ dist_in ways nodes joins f a b
+    → IsTied ways nodes joins f a b
+tied ways nodes joins f a b e = by (join_at joins a b) refl e where
+  by : (o : Option Join) → join_at joins a b ≡ o → load_of f a b ≡ option_map_or (join_length ways nodes) o (load_of f a b + 1) → IsTied ways nodes joins f a b
+  by None is h = absurd (omega (arith, h))
+  by (Some j) is h = record { join = j; there = is; long = sym h }
+
+pub seats_longer : (old new : List Node) (seats : List ℕ) → IsLonger old new → HaveSeats old seats → HaveSeats new seats
+seats_longer old new seats more have t h =
+    let was = have t h in
+    (omega (arith, was.0, length_longer old new more), ap (λ z. z.face) (same_node old new t more was.0) ∙ was.1)

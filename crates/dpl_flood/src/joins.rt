@@ -1,10 +1,11 @@
 //! The joins that members have.
 
 ghost use Rattle.std.specs.Prelude.{◌≡◌, ◌≢◌, ◌<◌, ℕ, List, [], Some, length, option_map, OnOk, OnErr};
+ghost use Rattle.dpl_laminar.specs.Families.{Sets, load_of};
 ghost use Rattle.dpl_dual.specs.declared.crosses.Cross.{Cross};
 ghost use Rattle.dpl_flood.specs.declared.nodes.Node.{Node};
 ghost use Rattle.dpl_flood.specs.Arenas.{IsJoin, IsLonger, start_of, end_of, turned};
-ghost use Rattle.dpl_flood.specs.Joins.{Entries, AreJoins, IsNoted, join_at};
+ghost use Rattle.dpl_flood.specs.Joins.{Entries, AreJoins, HaveSeats, IsNoted, IsTied, dist_in, join_at};
 
 use crate::nodes::{Join, Node};
 use indexmap::IndexMap;
@@ -75,4 +76,16 @@ pub fn joins_stay()
     ensures back { (joins : Entries) (a b : ℕ) → a ≢ b → join_at joins b a ≡ option_map turned (join_at joins a b) }
     ensures stay { (ways : List Cross) (old new : List Node) (joins : Entries) → IsLonger old new →
         AreJoins ways old joins → AreJoins ways new joins }
+    ensures seats { (old new : List Node) (seats : List ℕ) → IsLonger old new → HaveSeats old seats → HaveSeats new seats }
+    ensures far { (ways : List Cross) (old new : List Node) (joins : Entries) (f : Sets) (a b : ℕ) → IsLonger old new →
+        AreJoins ways old joins → dist_in ways new joins f a b ≡ dist_in ways old joins f a b }
+{}
+
+/// Two members are as far from each other as the other way round, and those whose load is as much have a join. The call
+/// does nothing.
+pub fn joins_are_far()
+    ensures same { (ways : List Cross) (nodes : List Node) (joins : Entries) (f : Sets) (a b : ℕ) →
+        dist_in ways nodes joins f a b ≡ dist_in ways nodes joins f b a }
+    ensures tied { (ways : List Cross) (nodes : List Node) (joins : Entries) (f : Sets) (a b : ℕ) →
+        load_of f a b ≡ dist_in ways nodes joins f a b → IsTied ways nodes joins f a b }
 {}

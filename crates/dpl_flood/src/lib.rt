@@ -17,6 +17,7 @@ mod beginning;
 mod chains;
 mod coming;
 mod event;
+mod flipping;
 mod held;
 mod joins;
 mod laws;
@@ -40,8 +41,9 @@ pub use beginning::first_keys;
 pub use chains::{chains_stay, joins_lead, steps_are};
 pub use coming::next;
 pub use event::{Crossing, Event};
+pub use flipping::flip_join;
 pub use held::Held;
-pub use joins::{Joins, joins_stay};
+pub use joins::{Joins, joins_are_far, joins_stay};
 pub use laws::{
     events_keep_seas, keys_tell_events, names_keep_time, stacks_tell_falls, states_keep_keys,
     time_keeps_seas, trees_move_tops,
