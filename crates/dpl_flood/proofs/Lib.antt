@@ -3,6 +3,7 @@ mod KeyLemmas
 mod ArenaLemmas
 mod JoinLemmas
 mod NotedLemmas
+mod ChainedLemmas
 mod StepLemmas
 pub mod DueLemmas
 pub mod ShoreLemmas

@@ -23,6 +23,7 @@ mod joins;
 mod laws;
 mod looks;
 mod nodes;
+mod pairs;
 mod passing;
 mod queue;
 mod relabelling;
@@ -50,6 +51,7 @@ pub use laws::{
 };
 pub use looks::{look_around, look_set, look_top, look_way};
 pub use nodes::{Join, Last, Node};
+pub use pairs::join_pairs;
 pub use passing::advance;
 pub use queue::Queue;
 pub use relabelling::{cease, grow, rouse};
