@@ -2,6 +2,8 @@ mod TreeLemmas
 mod KeyLemmas
 mod ArenaLemmas
 mod JoinLemmas
+mod NotedLemmas
+mod ChainedLemmas
 mod StepLemmas
 pub mod DueLemmas
 pub mod ShoreLemmas

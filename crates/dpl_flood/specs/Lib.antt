@@ -1,5 +1,7 @@
 pub mod Queues
 pub mod Arenas
+pub mod Joins
+pub mod Flips
 pub mod Steps
 pub mod Dues
 pub mod Seas
