@@ -129,7 +129,7 @@ blank_inner f v k t = sum_same (2 * f.size) (λ j. cond (comes_before f j k && f
     none false x e = refl
 
 -- the same item at each place, and the same where there is none
-same_item : {X : Type 0} → (n k : ℕ) (v : X) → get_or (replicate n v) k v ≡ v
+pub same_item : {X : Type 0} → (n k : ℕ) (v : X) → get_or (replicate n v) k v ≡ v
 same_item n k v = elim (cases_lt k n) [
   | inl l ↦ get_or-replicate n k v v l
   | inr l ↦ get_or_past (replicate n v) k v (omega (arith, l, length-replicate n v))

@@ -65,7 +65,9 @@ passed_over x family time rest = record {
   seats = refl;
   held = refl;
   arena = refl;
-  labels = refl;
+  tree = refl;
+  mates = refl;
+  joins = refl;
   rests = refl;
   inners = refl;
 }

@@ -26,6 +26,9 @@ pub mod ShiftLemmas
 pub mod FlowLemmas
 pub mod ResultLemmas
 pub mod PassLemmas
+mod StageLemmas
+mod ForestLemmas
+mod TreedLemmas
 mod ClockLemmas
 mod ComeLemmas
 mod LabelLemmas

@@ -206,6 +206,8 @@ thaw_none d x keys sets st k many = record {
     arena = refl;
     time = refl;
     inners = refl;
+    mates = refl;
+    joins = refl;
     labels = refl;
     rests = refl;
   };
@@ -227,6 +229,8 @@ thaw_more d x sets y z old new i t st keys r labels awake others = record {
     arena = r.arena ∙ t.same.arena;
     time = r.time ∙ t.same.time;
     inners = r.inners ∙ t.same.inners;
+    mates = r.mates ∙ t.same.mates;
+    joins = r.joins ∙ t.same.joins;
     labels = r.labels ∙ t.same.labels;
     rests = r.rests ∙ t.same.rests;
   };

@@ -69,6 +69,8 @@ pub record IsRelabelled (x y : State) : Type 0 where
   pub arena : y.arena ≡ x.arena
   pub time : y.time ≡ x.time
   pub inners : y.inners.items ≡ x.inners.items
+  pub mates : y.mates ≡ x.mates
+  pub joins : y.joins ≡ x.joins
   pub labels : length y.tree.labels.items ≡ length x.tree.labels.items
   pub rests : length y.rests.items ≡ length x.rests.items
 

@@ -11,6 +11,7 @@ pub mod TreeLaws
 pub mod Holdings
 pub mod Standings
 pub mod States
+pub mod Forested
 pub mod StateLaws
 pub mod Events
 pub mod Starts

@@ -2,6 +2,7 @@
 
 ghost use Rattle.std.specs.Prelude.{◌≡◌, ℕ, ◌+◌, ◌*◌, ◌<◌, ◌≤◌, ◌^◌, Some, None, [], List, All, IfOk, length, slice_index, replicate};
 ghost use Rattle.dpl_laminar.specs.Storing.{sets_of, AreOnce};
+ghost use Rattle.dpl_flood.specs.Forested.{IsForested};
 ghost use Rattle.dpl_flood.specs.Holdings.{node_of};
 ghost use Rattle.dpl_flood.specs.Queues.{never};
 ghost use Rattle.dpl_flood.specs.Starts.{AreSeats, AreSeated, AreFirst, HasBegun};
@@ -10,6 +11,7 @@ ghost use Rattle.dpl_flood.specs.Steps.{step_rows};
 
 use crate::arena::Arena;
 use crate::held::Held;
+use crate::joins::Joins;
 use crate::looks::look_around;
 use crate::queue::Queue;
 use crate::state::State;
@@ -48,12 +50,20 @@ fn members_below(alloc: Global, size: usize) -> Result<Vec<u32>, AllocError>
     Ok(members)
 }
 
+/// So many members without mates.
+fn no_mates(alloc: Global, size: usize) -> Result<Vec<Option<u32>>, AllocError>
+    ensures { IfOk result (λ mates. mates.items ≡ replicate size None) }
+{
+    Ok(vec![in alloc; None; size]?)
+}
+
 impl State {
     /// The beginning: a member for each of these faces, at time 0. It costs the faces of the dual and the square of the members.
     pub fn start(alloc: Global, dual: &Dual, faces: &[u32]) -> Result<State, AllocError>
         requires ground { IsGround dual.now }
         requires seats { AreSeats dual.now faces.now }
         ensures begun { IfOk result (HasBegun dual.now) }
+        ensures forest { IfOk result (IsForested dual.now) }
         ensures seats { IfOk result (λ x. x.seats ≡ faces.now) }
     {
         let size = faces.len();
@@ -63,7 +73,7 @@ impl State {
         let family = Family::new(alloc, size as u32)?;
         let members = members_below(alloc, size)?;
         let tree = Tree::of_roots(alloc, &family, members.as_slice(), size)?;
-        let mates = vec![in alloc; None; size]?;
+        let mates = no_mates(alloc, size)?;
         let rests = vec![in alloc; false; 2 * size]?;
         let inners = vec![in alloc; 0; size]?;
         let seats = Items::new(Vec::from_slice(alloc, faces)?);
@@ -76,6 +86,7 @@ impl State {
             inners,
             held,
             arena,
+            joins: Joins::new(alloc),
             time: 0,
         })
     }

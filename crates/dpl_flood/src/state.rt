@@ -13,6 +13,7 @@ ghost use Rattle.dpl_flood.specs.States.{IsState, sea_of, fall_of};
 
 use crate::arena::Arena;
 use crate::held::Held;
+use crate::joins::Joins;
 use crate::standing::{Standing, due};
 use crate::ways::way_of;
 use dpl_dual::Dual;
@@ -36,6 +37,8 @@ pub struct State {
     pub inners: Vec<u64>,
     pub held: Held,
     pub arena: Arena,
+    /// What two tops that met have over their way.
+    pub joins: Joins,
     pub time: u64,
 }
 

@@ -4,6 +4,7 @@ ghost use Rattle.std.specs.Prelude.{◌≡◌, ◌≢◌, ℕ, ◌*◌, ◌<◌,
 ghost use Rattle.dpl_laminar.specs.Storing.{sets_of};
 ghost use Rattle.dpl_tree.specs.Views.{place_in};
 ghost use Rattle.dpl_flood.specs.Events.{IsRelabelled, MayGrow};
+ghost use Rattle.dpl_flood.specs.Forested.{IsForested};
 ghost use Rattle.dpl_flood.specs.Rates.{gains_in, losses_in};
 ghost use Rattle.dpl_flood.specs.Seas.{Grows};
 ghost use Rattle.dpl_flood.specs.States.{IsState, AreKeys, sea_of};
@@ -71,6 +72,7 @@ pub fn thaw(state: &mut State, dual: &Dual, steps: &Grouped<Step>, queue: &mut Q
     ensures awake { (k : ℕ) → slice_index_or state.new.rests.items k false ≡ false }
     ensures rest { IsRelabelled state.old state.new }
     ensures state { IsState dual.now state.new }
+    ensures forest { IsForested dual.now state.old → IsForested dual.now state.new }
     ensures keys { AreKeys dual.now state.new queue.new }
 {
     let sets = state.rests.len();
