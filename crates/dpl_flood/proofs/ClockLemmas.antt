@@ -1,5 +1,5 @@
 -- The values of tops while time passes.
-use Rattle.std.proofs.Common.{arith, ◌≡◌, ◌≢◌, ℕ, ◌+◌, ◌-◌, ◌*◌, ◌^◌, ◌<◌, ◌≤◌, refl, sym, ap, ◌∙◌, zero, suc, inl, inr, true, false, List, length, get_or, None}
+use Rattle.std.proofs.Common.{arith, ◌≡◌, ℕ, ◌+◌, ◌-◌, ◌*◌, ◌<◌, ◌≤◌, refl, sym, ap, ◌∙◌, zero, suc, inl, inr, false, List, length}
 use Rattle.std.proofs.lemmas.Bool.{cases_lt, true≢false}
 use Rattle.std.specs.Prelude.{max, slice_index}
 use Rattle.std.proofs.lemmas.List.Elements.{All-contains, All-get_or}
@@ -7,13 +7,12 @@ use Rattle.std.proofs.lemmas.Int.{clamps}
 use Rattle.dpl_laminar.specs.Families.{Sets}
 use Rattle.dpl_laminar.specs.Storing.{Stored, sets_of}
 use Rattle.dpl_dual.specs.declared.crosses.Dual.{Dual}
-use Rattle.dpl_pack.specs.Points.{total_at}
-use Rattle.dpl_tree.specs.steps.Forests.{Place, free, outer, inner, gain, drop_of}
+use Rattle.dpl_tree.specs.steps.Forests.{outer, gain, drop_of}
 use Rattle.dpl_tree.specs.Views.{place_in}
 use Rattle.dpl_laminar.proofs.Released.{some_member}
 use Rattle.dpl_flood.specs.declared.state.State.{State}
 use Rattle.dpl_flood.specs.Queues.{IsFirst}
-use Rattle.dpl_flood.specs.Seas.{Sea, IsSea, ArePassed, AreLate, AreMoving}
+use Rattle.dpl_flood.specs.Seas.{ArePassed, AreLate}
 use Rattle.dpl_flood.specs.StateLaws.{ArePassedOver}
 use Rattle.dpl_flood.specs.States.{sea_of, IsState, AreKeys, top_keys}
 use Rattle.dpl_flood.proofs.StateLemmas.{total_is}

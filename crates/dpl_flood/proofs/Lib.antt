@@ -29,3 +29,4 @@ mod ComeLemmas
 mod LabelLemmas
 mod BeginLemmas
 mod TurnLemmas
+pub mod SweepLemmas

@@ -1,5 +1,5 @@
 -- Keys after tops began to move, or rest no more.
-use Rattle.std.proofs.Common.{arith, ◌≡◌, ◌≢◌, ℕ, ◌+◌, ◌*◌, ◌<◌, ◌≤◌, ◌==◌, ◌⊎◌, refl, sym, ap, ◌∙◌, subst, inl, inr, true, false, Bool, eq-eqb, List, length, get_or}
+use Rattle.std.proofs.Common.{arith, ◌≡◌, ◌≢◌, ℕ, ◌+◌, ◌*◌, ◌<◌, ◌≤◌, ◌==◌, refl, sym, ap, ◌∙◌, subst, inl, inr, true, false, Bool, eq-eqb, List, length, get_or}
 use Rattle.std.specs.Prelude.{slice_set}
 use Rattle.std.proofs.lemmas.Bool.{cases_eq, cases_lt, cases_Bool, cond-true, ne_eqb, true≢false}
 use Rattle.std.proofs.lemmas.List.{get_or-set_other, get_or_past, length-set}
@@ -16,7 +16,7 @@ use Rattle.dpl_flood.specs.Events.{IsRelabelled, IsThawing}
 use Rattle.dpl_flood.specs.Holdings.{stack_of}
 use Rattle.dpl_flood.specs.Queues.{never}
 use Rattle.dpl_flood.specs.Rates.{gains_in, losses_in}
-use Rattle.dpl_flood.specs.Seas.{Sea, Grows, AreMoving, IsDueTime, IsEvent, IsTopDue, IsTopTime, AreRenewed, sides_of, tide_of, due_of, span_of}
+use Rattle.dpl_flood.specs.Seas.{Sea, Grows, AreMoving, IsDueTime, IsEvent, IsTopTime, AreRenewed, sides_of, tide_of, due_of, span_of}
 use Rattle.dpl_flood.specs.States.{sea_of, fall_of, IsGround, IsState, IsWayFrom, AreKeys, AreKeyedAround, AreKeyedOn, top_keys}
 use Rattle.dpl_flood.proofs.DueLemmas.{roused}
 use Rattle.dpl_flood.proofs.EventLemmas.{event_kept, grow_due}

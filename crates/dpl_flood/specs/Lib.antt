@@ -12,3 +12,4 @@ pub mod States
 pub mod StateLaws
 pub mod Events
 pub mod Starts
+pub mod Sweeps

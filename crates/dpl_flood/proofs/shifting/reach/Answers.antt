@@ -1,6 +1,5 @@
 use Rattle.std.proofs.Common.{arith}
-use Rattle.dpl_flood.proofs.FlowLemmas.{same_keys, taken_keys}
-use Rattle.dpl_flood.proofs.ResultLemmas.{on_err}
+use Rattle.dpl_flood.proofs.FlowLemmas.{taken_keys}
 use Rattle.dpl_flood.proofs.shifting.reach.Goals as goal
 
 pub look_around-requires-clause-face : goal.look_around-requires-clause-face
