@@ -30,3 +30,4 @@ mod LabelLemmas
 mod BeginLemmas
 mod TurnLemmas
 pub mod SweepLemmas
+mod TopLemmas
