@@ -20,6 +20,7 @@ mod entering;
 mod event;
 mod flipping;
 mod held;
+mod holders;
 mod joins;
 mod laws;
 mod looks;
@@ -48,6 +49,7 @@ pub use entering::enter;
 pub use event::{Crossing, Event};
 pub use flipping::flip_join;
 pub use held::Held;
+pub use holders::held_faces;
 pub use joins::{Joins, joins_are_far, joins_stay};
 pub use laws::{
     events_keep_seas, keys_tell_events, names_keep_time, stacks_tell_falls, states_keep_keys,
