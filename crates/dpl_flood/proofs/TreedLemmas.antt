@@ -1,16 +1,14 @@
 -- States with trees, while time passes and faces come and go.
-use Rattle.std.proofs.Common.{arith, ◌≡◌, ℕ, ◌*◌, ◌<◌, refl, sym, ap, ◌∙◌, subst, true, false, Some, None, Option, List, [], length, get_or, ltb, Bool, cond}
+use Rattle.std.proofs.Common.{arith, ◌≡◌, ℕ, ◌<◌, refl, sym, ap, ◌∙◌, subst, true, false, None, Option, List, [], length, get_or, ltb, Bool, cond}
 use Rattle.std.proofs.Math.Path.{subst₂}
 use Rattle.std.specs.Prelude.{replicate}
-use Rattle.std.proofs.lemmas.Bool.{cases_Bool, true≢false}
+use Rattle.std.proofs.lemmas.Bool.{true≢false}
 use Rattle.std.proofs.lemmas.List.{length-replicate}
 use Rattle.std.proofs.lemmas.Option.{none-some}
-use Rattle.dpl_laminar.specs.Families.{Sets}
 use Rattle.dpl_laminar.specs.Storing.{sets_of}
 use Rattle.dpl_dual.specs.declared.crosses.Cross.{Cross}
 use Rattle.dpl_dual.specs.declared.crosses.Dual.{Dual}
-use Rattle.dpl_pack.specs.Points.{Point, water, on}
-use Rattle.dpl_tree.specs.steps.Forests.{Forest}
+use Rattle.dpl_pack.specs.Points.{water, on}
 use Rattle.dpl_tree.specs.steps.Growth.{AreRoots}
 use Rattle.dpl_tree.specs.Views as views
 use Rattle.dpl_tree.specs.Views.{forest_of, place_in, mate_in}
@@ -21,7 +19,7 @@ use Rattle.dpl_flood.specs.Arenas.{IsLonger}
 use Rattle.dpl_flood.specs.Events.{IsRelabelled}
 use Rattle.dpl_flood.specs.Forested.{AreTrees, IsForested, IsSameForest, trees_of, dist_of}
 use Rattle.dpl_flood.specs.Holdings.{Holding, point_of}
-use Rattle.dpl_flood.specs.Joins.{Entries, AreJoins, HaveSeats, dist_in, join_at}
+use Rattle.dpl_flood.specs.Joins.{AreJoins, HaveSeats, dist_in}
 use Rattle.dpl_flood.specs.Rates.{gains_in, losses_in}
 use Rattle.dpl_flood.specs.Seas.{Sea, IsSea, ArePassed, advanced, changed, noted_at}
 use Rattle.dpl_flood.specs.Starts.{AreSeated, HasBegun}

@@ -6,6 +6,9 @@
 //! all trees at once. The laws of `laws.rt` say that time and each event leave a flood a flood, so no load is ever above
 //! a chain, and that the keys of ways and sets tell when something comes. They are contracts of calls that do nothing.
 //!
+//! A `State` is what there is at one moment, with the trees and the joins of its members. `sweep` lets time pass, and takes
+//! and leaves faces, until a tree changes; `enter` takes a free top and its mate into a tree.
+//!
 //! `Queue` has a key for each place and answers the least one. `Arena` keeps chains for good: a node is the last way of a
 //! chain from the seat of a member to a face, and nodes are only added. A `Join` is two such chains and a way between
 //! them, so it is a chain from seat to seat. `Joins` has one for any two members that are joined. `steps_at` gives the
