@@ -1,13 +1,12 @@
 -- The state at the beginning, and its keys.
-use Rattle.std.proofs.Common.{arith, ◌≡◌, ◌≢◌, ℕ, ◌+◌, ◌*◌, ◌^◌, ◌<◌, ◌≤◌, ◌⊎◌, refl, sym, ap, ◌∙◌, subst, inl, inr, ltb, Bool, ◌&&◌, Some, None, true, false, cond, List, [], ◌∷◌, length, get_or}
+use Rattle.std.proofs.Common.{arith, ◌≡◌, ◌≢◌, ℕ, ◌+◌, ◌*◌, ◌<◌, ◌≤◌, refl, sym, ap, ◌∙◌, subst, inl, inr, Bool, ◌&&◌, Some, None, true, false, cond, List, [], length, get_or}
 use Rattle.std.specs.Prelude.{replicate}
-use Rattle.std.proofs.lemmas.Bool.{cases_eq, cases_lt, cond-true, cond-false, lt-ltb, le-ltb, true≢false}
-use Rattle.std.proofs.lemmas.List.{get_or-set_other, get_or_default, get_or-replicate, get_or_past, length-replicate, length-set}
+use Rattle.std.proofs.lemmas.Bool.{cases_eq, cases_lt, true≢false}
+use Rattle.std.proofs.lemmas.List.{get_or-set_other, get_or-replicate, get_or_past, length-replicate, length-set}
 use Rattle.std.proofs.lemmas.Grind.{get_or-set_at}
 use Rattle.std.proofs.lemmas.Option.{same_Some, none-some}
 use Rattle.dpl_laminar.specs.Families.{Sets, IsFamily, has}
 use Rattle.dpl_laminar.specs.Changes.{IsSingles}
-use Rattle.dpl_laminar.specs.Loads.{sum_below}
 use Rattle.dpl_laminar.specs.Storing.{sets_of, AreOnce}
 use Rattle.dpl_laminar.proofs.Numbers.{cases_Option}
 use Rattle.dpl_laminar.proofs.Sums.{sum_same, sum_zero}
@@ -15,10 +14,11 @@ use Rattle.dpl_dual.specs.declared.crosses.Cross.{Cross}
 use Rattle.dpl_dual.specs.declared.crosses.Dual.{Dual}
 use Rattle.dpl_dual.specs.Chains.{IsAt}
 use Rattle.dpl_dual.specs.Duals.{way_at}
-use Rattle.dpl_tree.specs.declared.tree.Label.TheVariants.{Free, Outer}
-use Rattle.dpl_tree.specs.declared.tree.Label.{Label}
-use Rattle.dpl_tree.specs.steps.Forests.{gain, drop_of}
-use Rattle.dpl_tree.specs.Views.{place_of}
+use Rattle.dpl_tree.specs.declared.tree.Tree.{Tree}
+use Rattle.dpl_tree.specs.steps.Forests.{free, outer, gain, drop_of}
+use Rattle.dpl_tree.specs.steps.Growth.{AreRoots}
+use Rattle.dpl_tree.specs.Views.{place_in}
+use Rattle.dpl_tree.proofs.Growing.{place_cases, outer_in, inner_in}
 use Rattle.dpl_pack.specs.Nests.{inner_of, comes_before}
 use Rattle.dpl_pack.specs.Points.{water, on}
 use Rattle.dpl_pack.proofs.PointLemmas.{on_water, member_at, far_at}
@@ -30,8 +30,8 @@ use Rattle.dpl_flood.specs.Dues.{IsDueAt}
 use Rattle.dpl_flood.specs.Holdings.{Holding, node_of, stack_of, seated, point_at}
 use Rattle.dpl_flood.specs.Queues.{never}
 use Rattle.dpl_flood.specs.Seas.{Sea, IsStart, IsDueTime, IsPile, sides_of, tide_of, depth_above}
-use Rattle.dpl_flood.specs.Starts.{AreSeats, AreSeated, AreFirst, HasBegun, first_label}
-use Rattle.dpl_flood.specs.States.{IsGround, IsState, IsWayFrom, AreKeys, AreKeyedAround, sea_of, top_keys}
+use Rattle.dpl_flood.specs.Starts.{AreSeats, AreSeated, AreFirst, HasBegun}
+use Rattle.dpl_flood.specs.States.{IsGround, IsWayFrom, AreKeys, AreKeyedAround, sea_of, top_keys}
 use Rattle.dpl_flood.proofs.ArenaLemmas.{same_node}
 use Rattle.dpl_flood.proofs.LookLemmas.{around_either}
 use Rattle.dpl_flood.proofs.MeetLemmas.{due_at}
@@ -100,11 +100,24 @@ seated_more faces i old nodes new x a once hi low s number count is longer kept 
 -- ---- the state
 
 -- at first single members are outer, and no other set stands in a tree
-pub first_low : (size k : ℕ) → k < size → first_label size k ≡ Outer
-first_low size k h = cond-true {A = Label} (ltb k size) Outer Free (lt-ltb k size h)
+pub first_low : (f : Sets) (tree : Tree) (members : List ℕ) → IsSingles f.size f → AreRoots f members tree → length members ≡ f.size
+    → ((k : ℕ) → k < f.size → get_or members k 0 ≡ k) → (k : ℕ) → k < f.size → place_in tree.labels.items k ≡ outer
+first_low f tree members singles roots many each k h =
+    ap (place_in tree.labels.items) (sym (singles.top k h) ∙ ap f.top (sym (each k h))) ∙ roots.are_outer k (omega (arith, h, many))
 
-pub first_high : (size k : ℕ) → size ≤ k → first_label size k ≡ Free
-first_high size k h = cond-false {A = Label} (ltb k size) Outer Free (le-ltb k size h)
+pub first_high : (f : Sets) (tree : Tree) (members : List ℕ) → IsSingles f.size f → AreRoots f members tree → length members ≡ f.size
+    → ((k : ℕ) → k < f.size → get_or members k 0 ≡ k) → (k : ℕ) → f.size ≤ k → place_in tree.labels.items k ≡ free
+first_high f tree members singles roots many each k h = elim (place_cases (place_in tree.labels.items k)) [
+  | inl e ↦ e
+  | inr (inl e) ↦ absurd (none (outer_in e))
+  | inr (inr e) ↦ absurd (none (inner_in e))
+]
+  where
+    none : place_in tree.labels.items k ≢ free → ⊥
+    none ne =
+        let w = (roots.only k ne).1 in
+        let low : w.0 < f.size = omega (arith, w.1, many) in
+        omega (arith, h, low, sym w.2 ∙ ap f.top (each w.0 low) ∙ singles.top w.0 low)
 
 -- without values nothing is inside
 blank_inner : (f : Sets) → ((k : ℕ) → f.value k ≡ 0) → (k t : ℕ) → inner_of f k t ≡ 0
@@ -116,7 +129,7 @@ blank_inner f v k t = sum_same (2 * f.size) (λ j. cond (comes_before f j k && f
     none false x e = refl
 
 -- the same item at each place, and the same where there is none
-same_item : {X : Type 0} → (n k : ℕ) (v : X) → get_or (replicate n v) k v ≡ v
+pub same_item : {X : Type 0} → (n k : ℕ) (v : X) → get_or (replicate n v) k v ≡ v
 same_item n k v = elim (cases_lt k n) [
   | inl l ↦ get_or-replicate n k v v l
   | inr l ↦ get_or_past (replicate n v) k v (omega (arith, l, length-replicate n v))
@@ -125,22 +138,23 @@ same_item n k v = elim (cases_lt k n) [
 -- what is made of so many seats has begun
 pub begun : (d : Dual) (x : State) (faces : List ℕ) (old : Holding) → IsGround d → AreSeats d faces → x.seats ≡ faces
     → IsSingles (length faces) (sets_of x.family) → IsFamily (sets_of x.family) → AreSeated faces (length faces) old x.arena x.held
-    → length old.nodes ≡ d.faces → old.stacks ≡ replicate (2 * length faces) [] → length x.labels.items ≡ 2 * length faces
-    → ((k : ℕ) → k < 2 * length faces → get_or x.labels.items k Free ≡ first_label (length faces) k)
+    → length old.nodes ≡ d.faces → old.stacks ≡ replicate (2 * length faces) [] → (members : List ℕ)
+    → AreRoots (sets_of x.family) members x.tree → length members ≡ length faces → ((k : ℕ) → k < length faces → get_or members k 0 ≡ k)
     → x.rests.items ≡ replicate (2 * length faces) false → x.inners.items ≡ replicate (length faces) 0 → x.time ≡ 0 → HasBegun d x
-begun d x faces old ground seats is singles family placed places stacks many labels rests inners time =
+begun d x faces old ground seats is singles family placed places stacks members roots many each rests inners time =
     let n = length faces in
     let f = sets_of x.family in
     let s = sea_of x in
     let size : f.size ≡ n = singles.size in
-    let label : (k : ℕ) → get_or x.labels.items k Free ≡ first_label n k = λ k. elim (cases_lt k (2 * n)) [
-      | inl l ↦ labels k l
-      | inr l ↦ get_or_past x.labels.items k Free (omega (arith, l, many)) ∙ sym (first_high n k (omega (arith, l)))
-    ] in
+    let own : IsSingles f.size f = subst (λ z. IsSingles z f) (sym size) singles in
+    let low : (k : ℕ) → k < f.size → place_in x.tree.labels.items k ≡ outer = first_low f x.tree members own roots (many ∙ sym size)
+    (λ k h. each k (omega (arith, h, size))) in
+    let high : (k : ℕ) → f.size ≤ k → place_in x.tree.labels.items k ≡ free = first_high f x.tree members own roots (many ∙ sym size)
+    (λ k h. each k (omega (arith, h, size))) in
     let bare : (k : ℕ) → stack_of x.held k ≡ [] = λ k. ap (λ z. get_or z k []) (placed.stacks ∙ stacks) ∙ same_item {X = List ℕ} (2 * n) k [] in
     let start : IsStart d faces s = record {
       family = family;
-      singles = subst (λ z. IsSingles z f) (sym size) singles;
+      singles = own;
       seated = λ t ht.
           let h : t < n = omega (arith, ht, size) in
           let there = placed.there t h in
@@ -157,11 +171,11 @@ begun d x faces old ground seats is singles family placed places stacks many lab
             (omega (arith, t_is, o.0, size), (far_is, o.1 ∙ ap (λ z. get_or faces z 0) (sym t_is)))
       ];
       seats = λ t ht. let h : t < n = omega (arith, ht, size) in (seats.inside t 0 h, seats.part t 0 h);
-      grow = λ k h. ap (λ z. gain (place_of z)) (label k ∙ first_low n k (omega (arith, h, size)));
-      rest = λ k h. ap (λ z. gain (place_of z)) (label k ∙ first_high n k (omega (arith, h, size)));
-      none_falls = λ k. elim (cases_lt k n) [
-        | inl l ↦ ap (λ z. drop_of (place_of z)) (label k ∙ first_low n k l)
-        | inr l ↦ ap (λ z. drop_of (place_of z)) (label k ∙ first_high n k l)
+      grow = λ k h. ap gain (low k h);
+      rest = λ k h. ap gain (high k h);
+      none_falls = λ k. elim (cases_lt k f.size) [
+        | inl l ↦ ap drop_of (low k l)
+        | inr l ↦ ap drop_of (high k l)
       ];
       none_rests = λ k. ap (λ z. get_or z k false) rests ∙ same_item (2 * n) k false;
       time = time;
@@ -173,7 +187,7 @@ begun d x faces old ground seats is singles family placed places stacks many lab
         sized = record {
           faces = placed.places ∙ places;
           stacks = omega (arith, ap length (placed.stacks ∙ stacks), length-replicate {A = List ℕ} (2 * n) [], size);
-          labels = omega (arith, many, size);
+          labels = roots.sized.labels;
           rests = omega (arith, ap length rests, length-replicate (2 * n) false, size);
           inners = omega (arith, ap length inners, length-replicate {A = ℕ} n 0, size);
         };

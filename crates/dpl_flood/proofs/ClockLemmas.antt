@@ -1,5 +1,5 @@
 -- The values of tops while time passes.
-use Rattle.std.proofs.Common.{arith, ◌≡◌, ◌≢◌, ℕ, ◌+◌, ◌-◌, ◌*◌, ◌^◌, ◌<◌, ◌≤◌, refl, sym, ap, ◌∙◌, zero, suc, inl, inr, true, false, List, length, get_or, None}
+use Rattle.std.proofs.Common.{arith, ◌≡◌, ℕ, ◌+◌, ◌-◌, ◌*◌, ◌<◌, ◌≤◌, refl, sym, ap, ◌∙◌, zero, suc, inl, inr, false, List, length}
 use Rattle.std.proofs.lemmas.Bool.{cases_lt, true≢false}
 use Rattle.std.specs.Prelude.{max, slice_index}
 use Rattle.std.proofs.lemmas.List.Elements.{All-contains, All-get_or}
@@ -7,13 +7,12 @@ use Rattle.std.proofs.lemmas.Int.{clamps}
 use Rattle.dpl_laminar.specs.Families.{Sets}
 use Rattle.dpl_laminar.specs.Storing.{Stored, sets_of}
 use Rattle.dpl_dual.specs.declared.crosses.Dual.{Dual}
-use Rattle.dpl_pack.specs.Points.{total_at}
-use Rattle.dpl_tree.specs.steps.Forests.{Place, free, outer, inner, gain, drop_of}
+use Rattle.dpl_tree.specs.steps.Forests.{outer, gain, drop_of}
 use Rattle.dpl_tree.specs.Views.{place_in}
 use Rattle.dpl_laminar.proofs.Released.{some_member}
 use Rattle.dpl_flood.specs.declared.state.State.{State}
 use Rattle.dpl_flood.specs.Queues.{IsFirst}
-use Rattle.dpl_flood.specs.Seas.{Sea, IsSea, ArePassed, AreLate, AreMoving}
+use Rattle.dpl_flood.specs.Seas.{ArePassed, AreLate}
 use Rattle.dpl_flood.specs.StateLaws.{ArePassedOver}
 use Rattle.dpl_flood.specs.States.{sea_of, IsState, AreKeys, top_keys}
 use Rattle.dpl_flood.proofs.StateLemmas.{total_is}
@@ -22,7 +21,7 @@ pub values_kept : (f g h : Sets) → g ≡ record f { value = g.value } → h �
 values_kept f g h e d = d ∙ ap (λ (z : Sets). record z { value = h.value }) e
 
 -- the value of an outer top is at most the time
-pub value_early : (d : Dual) (x : State) → IsState d x → (k : ℕ) → place_in x.labels.items k ≡ outer → (sets_of x.family).value k ≤ x.time
+pub value_early : (d : Dual) (x : State) → IsState d x → (k : ℕ) → place_in x.tree.labels.items k ≡ outer → (sets_of x.family).value k ≤ x.time
 value_early d x st k e =
     let f = sets_of x.family in
     let w = st.sea.moving.tops k (omega (arith, ap gain e)) in
@@ -32,8 +31,8 @@ value_early d x st k e =
 
 -- the values that come of it
 pub values_passed : (d : Dual) (x : State) (time : ℕ) (g : Sets) → IsState d x → x.time ≤ time
-    → ((i : ℕ) → i < 2 * (sets_of x.family).size → g.value i + drop_of (place_in x.labels.items i) * (time - x.time)
-    ≡ (sets_of x.family).value i + gain (place_in x.labels.items i) * (time - x.time))
+    → ((i : ℕ) → i < 2 * (sets_of x.family).size → g.value i + drop_of (place_in x.tree.labels.items i) * (time - x.time)
+    ≡ (sets_of x.family).value i + gain (place_in x.tree.labels.items i) * (time - x.time))
     → ((i : ℕ) → 2 * (sets_of x.family).size ≤ i → g.value i ≡ (sets_of x.family).value i)
     → ArePassed (sea_of x) time g.value
 values_passed d x time g st later each others = record {
@@ -41,14 +40,14 @@ values_passed d x time g st later each others = record {
   each = each;
   dead = λ k e. elim (cases_lt k (2 * (sets_of x.family).size)) [
     | inl h ↦
-        kept (g.value k) ((sets_of x.family).value k) (gain (place_in x.labels.items k)) (drop_of (place_in x.labels.items k)) (time - x.time) (still k e) (each k h)
+        kept (g.value k) ((sets_of x.family).value k) (gain (place_in x.tree.labels.items k)) (drop_of (place_in x.tree.labels.items k)) (time - x.time) (still k e) (each k h)
         ∙ st.sea.family.value_dead k e
     | inr h ↦ others k h ∙ st.sea.family.value_dead k e
   ];
 }
   where
-    still : (k : ℕ) → (sets_of x.family).live k ≡ false → gain (place_in x.labels.items k) + drop_of (place_in x.labels.items k) ≡ 0
-    still k e = elim (cases_lt 0 (gain (place_in x.labels.items k) + drop_of (place_in x.labels.items k))) [
+    still : (k : ℕ) → (sets_of x.family).live k ≡ false → gain (place_in x.tree.labels.items k) + drop_of (place_in x.tree.labels.items k) ≡ 0
+    still k e = elim (cases_lt 0 (gain (place_in x.tree.labels.items k) + drop_of (place_in x.tree.labels.items k))) [
       | inl h ↦ absurd (true≢false (sym (st.sea.moving.tops k h).1.0 ∙ e))
       | inr h ↦ omega (arith, h)
     ]
@@ -66,7 +65,9 @@ passed_over x family time rest = record {
   seats = refl;
   held = refl;
   arena = refl;
-  labels = refl;
+  tree = refl;
+  mates = refl;
+  joins = refl;
   rests = refl;
   inners = refl;
 }

@@ -1,10 +1,11 @@
 -- Joins: chains from seat to seat, drawn to one end and put one behind another.
 use Rattle.std.proofs.Common.{arith, ◌≡◌, ℕ, zero, suc, ◌+◌, ◌<◌, ◌≤◌, ◌^◌, refl, sym, ap, ◌∙◌, subst, Option, Some, None}
 use Rattle.std.proofs.Common.{List, [], ◌∷◌, ◌++◌, length, append_assoc, map}
-use Rattle.std.specs.Prelude.{reverse, MatchOption}
+use Rattle.std.specs.Prelude.{reverse, MatchOption, All}
 use Rattle.std.proofs.Math.Path.{subst₂}
 use Rattle.std.proofs.lemmas.List.{reverse-append, reverse-reverse, map-append}
 use Rattle.std.proofs.lemmas.List.Sums.{sum_by-cons, sum_by_push}
+use Rattle.std.proofs.lemmas.List.Elements.{All-head, All-tail, All-push, All-nil}
 use Rattle.dpl_dual.specs.declared.crosses.Cross.{Cross}
 use Rattle.dpl_dual.specs.Chains.{Leads, beyond, length_of}
 use Rattle.dpl_dual.specs.Duals.{way_at}
@@ -171,7 +172,7 @@ chain_step ways nodes a l p h e =
 
 -- the ways that were listed, and those that are left
 pub backing : (ways : List Cross) (nodes : List Node) (out : List ℕ) (a : ℕ) → a < length nodes → IsBacking ways nodes out out a a
-backing ways nodes out a h = record { inside = h; left = refl }
+backing ways nodes out a h = record { inside = h; left = refl; numbers = λ all. all }
 
 -- one way more is listed, and one less is left
 pub backing_on : (ways : List Cross) (nodes : List Node) (old out next : List ℕ) (a here : ℕ) (l : Last) → AreNodes ways nodes → IsBacking ways nodes old out a here
@@ -185,6 +186,7 @@ backing_on ways nodes old out next a here l p b e n =
       inside = omega (arith, last.0, b.inside);
       left = ap (λ z. map (way_at ways) z ++ rest) n ∙ ap (λ z. z ++ rest) (map-append (way_at ways) out (l.way ∷ []))
           ∙ append_assoc (map (way_at ways) out) (x ∷ []) rest ∙ ap (λ z. map (way_at ways) out ++ z) (sym is) ∙ b.left;
+      numbers = λ all. subst (All (λ w. w < length ways)) (sym n) (All-push (λ w. w < length ways) out l.way (b.numbers all) last.1.over.inside);
     }
 
 -- what is listed back on both sides of a way is the chain of the join
@@ -203,3 +205,17 @@ ways_are ways nodes j none one two three four e0 e1 e2 e3 e4 =
     map_reverse [] = refl
     map_reverse (x ∷ xs) = ap (map (way_at ways)) (reverse-append (x ∷ []) xs) ∙ map-append (way_at ways) (reverse xs) (x ∷ [])
         ∙ ap (λ z. z ++ way_at ways x ∷ []) (map_reverse xs) ∙ sym (reverse-append (way_at ways x ∷ []) (map (way_at ways) xs))
+
+-- and they are numbers of ways
+pub ways_inside : (ways : List Cross) (one two three four : List ℕ) (w : ℕ) → w < length ways → All (λ x. x < length ways) one → two ≡ reverse one
+    → three ≡ two ++ w ∷ [] → (All (λ x. x < length ways) three → All (λ x. x < length ways) four) → All (λ x. x < length ways) four
+ways_inside ways one two three four w h all e2 e3 last =
+    let P : ℕ → Type 0 = λ x. x < length ways in
+    let back : All P two = subst (All P) (sym e2) (turned one all) in
+    last (subst (All P) (sym e3) (All-push P two w back h))
+  where
+    turned : (xs : List ℕ) → All (λ x. x < length ways) xs → All (λ x. x < length ways) (reverse xs)
+    turned [] a = a
+    turned (x ∷ xs) a =
+        let P : ℕ → Type 0 = λ z. z < length ways in
+        subst (All P) (sym (reverse-append (x ∷ []) xs)) (All-push P (reverse xs) x (turned xs (All-tail P x xs a)) (All-head P x xs a))

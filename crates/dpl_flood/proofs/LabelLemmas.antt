@@ -1,5 +1,5 @@
 -- States whose tops stand another way in the trees.
-use Rattle.std.proofs.Common.{arith, ◌≡◌, ◌≢◌, ℕ, ◌+◌, ◌*◌, ◌<◌, ◌⊎◌, refl, sym, ap, ◌∙◌, subst, inl, inr, Bool, true, false, List, length, get_or}
+use Rattle.std.proofs.Common.{arith, ◌≡◌, ℕ, ◌+◌, ◌*◌, ◌<◌, refl, sym, ap, ◌∙◌, subst, inl, inr, Bool, true, false, List, length, get_or}
 use Rattle.std.specs.Prelude.{slice_set}
 use Rattle.std.proofs.lemmas.Bool.{cases_eq, cases_lt, true≢false}
 use Rattle.std.proofs.lemmas.List.{get_or-set_other, get_or_past, length-set}
@@ -21,25 +21,25 @@ use Rattle.dpl_flood.proofs.SeaLemmas.{now_kept}
 
 -- what tops do, and which rest
 abbrev pub relabelled : State → State → Sea
-relabelled x y = changed (sea_of x) (sets_of x.family) (gains_in (place_in y.labels.items)) (losses_in (place_in y.labels.items))
+relabelled x y = changed (sea_of x) (sets_of x.family) (gains_in (place_in y.tree.labels.items)) (losses_in (place_in y.tree.labels.items))
     (λ k. get_or y.rests.items k false)
 
 pub relabelled_sea : (x y : State) → IsRelabelled x y → sea_of y ≡ relabelled x y
 relabelled_sea x y r = λ z. record {
   sets = sets_of (r.family z);
   point = point_of (r.arena z) (r.held z);
-  gain = gains_in (place_in y.labels.items);
-  loss = losses_in (place_in y.labels.items);
+  gain = gains_in (place_in y.tree.labels.items);
+  loss = losses_in (place_in y.tree.labels.items);
   rests = λ k. get_or y.rests.items k false;
   time = r.time z;
 }
 
 -- a top goes into a tree, and another one behind it
 pub grown : (d : Dual) (x : State) (i o : ℕ) (labels : List Label) (rests : List Bool) → IsState d x → MayGrow (sea_of x) i o
-    → labels ≡ slice_set (slice_set x.labels.items i Inner) o Outer → rests ≡ slice_set x.rests.items o false
+    → labels ≡ slice_set (slice_set x.tree.labels.items i Inner) o Outer → rests ≡ slice_set x.rests.items o false
     → Grows (sea_of x) i o (gains_in (place_in labels)) (losses_in (place_in labels)) (λ k. get_or rests k false)
 grown d x i o labels rests st may l r =
-    let xs = x.labels.items in
+    let xs = x.tree.labels.items in
     let hi : i < length xs = omega (arith, (may.tops i (inl refl)).0, st.sized.labels) in
     let ho : o < length xs = omega (arith, (may.tops o (inr refl)).0, st.sized.labels) in
     let hr : o < length x.rests.items = omega (arith, (may.tops o (inr refl)).0, st.sized.rests) in
@@ -63,18 +63,18 @@ grown d x i o labels rests st may l r =
 
 -- a top stands still, and rests
 pub ceased : (d : Dual) (x : State) (set : ℕ) (labels : List Label) (rests : List Bool) → IsState d x → set < 2 * (sets_of x.family).size
-    → labels ≡ slice_set x.labels.items set Free → rests ≡ slice_set x.rests.items set true
+    → labels ≡ slice_set x.tree.labels.items set Free → rests ≡ slice_set x.rests.items set true
     → Ceases (sea_of x) (gains_in (place_in labels)) (losses_in (place_in labels)) (λ k. get_or rests k false)
 ceased d x set labels rests st h l r = record {
   each = λ k. elim (cases_eq k set) [
     | inl e ↦
-        let here : get_or labels k Free ≡ Free = ap (λ z. get_or z k Free) l ∙ get_or-set_at x.labels.items set k Free Free e (omega (arith, h, st.sized.labels)) in
+        let here : get_or labels k Free ≡ Free = ap (λ z. get_or z k Free) l ∙ get_or-set_at x.tree.labels.items set k Free Free e (omega (arith, h, st.sized.labels)) in
         inr (
           ap (λ z. gain (place_of z)) here,
           (ap (λ z. drop_of (place_of z)) here, ap (λ z. get_or z k false) r ∙ get_or-set_at x.rests.items set k true false e (omega (arith, h, st.sized.rests))),
         )
     | inr ne ↦
-        let same : get_or labels k Free ≡ get_or x.labels.items k Free = ap (λ z. get_or z k Free) l ∙ get_or-set_other x.labels.items set k Free Free ne in
+        let same : get_or labels k Free ≡ get_or x.tree.labels.items k Free = ap (λ z. get_or z k Free) l ∙ get_or-set_other x.tree.labels.items set k Free Free ne in
         inl (
           ap (λ z. gain (place_of z)) same,
           (ap (λ z. drop_of (place_of z)) same, ap (λ z. get_or z k false) r ∙ get_or-set_other x.rests.items set k true false ne),
@@ -88,13 +88,13 @@ ceased d x set labels rests st h l r = record {
 
 -- and no key is too late
 pub ceased_keys : (d : Dual) (x y : State) (keys : List ℕ) → IsState d x → IsRelabelled x y
-    → Ceases (sea_of x) (gains_in (place_in y.labels.items)) (losses_in (place_in y.labels.items)) (λ k. get_or y.rests.items k false)
+    → Ceases (sea_of x) (gains_in (place_in y.tree.labels.items)) (losses_in (place_in y.tree.labels.items)) (λ k. get_or y.rests.items k false)
     → AreKeys d x keys → AreKeys d y keys
 ceased_keys d x y keys st r ceases k =
     let none : ℕ → Bool = λ _. false in
     let way : ℕ → ℕ = λ w. get_or keys w 0 in
     let back = sym (relabelled_sea x y r) in
-    let event = cease_due d x.seats (sea_of x) (gains_in (place_in y.labels.items)) (losses_in (place_in y.labels.items)) (λ j. get_or y.rests.items j false)
+    let event = cease_due d x.seats (sea_of x) (gains_in (place_in y.tree.labels.items)) (losses_in (place_in y.tree.labels.items)) (λ j. get_or y.rests.items j false)
     none none st.sea ceases in
     let same : AreRenewed d (relabelled x y) none none way (top_keys d keys) way (top_keys d keys) = record {
       looks = record { one = λ w h e. absurd (true≢false (sym e)); two = λ w h e. absurd (true≢false (sym e)); others = λ w h a b. inl refl };

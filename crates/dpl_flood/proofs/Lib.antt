@@ -2,6 +2,8 @@ mod TreeLemmas
 mod KeyLemmas
 mod ArenaLemmas
 mod JoinLemmas
+mod NotedLemmas
+mod ChainedLemmas
 mod StepLemmas
 pub mod DueLemmas
 pub mod ShoreLemmas
@@ -24,6 +26,9 @@ pub mod ShiftLemmas
 pub mod FlowLemmas
 pub mod ResultLemmas
 pub mod PassLemmas
+mod StageLemmas
+mod ForestLemmas
+mod TreedLemmas
 mod ClockLemmas
 mod ComeLemmas
 mod LabelLemmas

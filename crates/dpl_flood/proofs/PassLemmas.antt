@@ -33,7 +33,7 @@ passed_stands d x y t v keys st k late none p small out o =
         sized = record {
           faces = ap (λ h. length h.nodes) o.held ∙ st.sized.faces;
           stacks = ap (λ h. length h.stacks) o.held ∙ st.sized.stacks ∙ ap (λ z. 2 * z) (sym size);
-          labels = o.labels ∙ st.sized.labels ∙ ap (λ z. 2 * z) (sym size);
+          labels = ap (λ z. length z.labels.items) o.tree ∙ st.sized.labels ∙ ap (λ z. 2 * z) (sym size);
           rests = o.rests ∙ st.sized.rests ∙ ap (λ z. 2 * z) (sym size);
           inners = ap length o.inners ∙ st.sized.inners ∙ sym size;
         };

@@ -1,5 +1,5 @@
 -- Keys after tops began to move, or rest no more.
-use Rattle.std.proofs.Common.{arith, ◌≡◌, ◌≢◌, ℕ, ◌+◌, ◌*◌, ◌<◌, ◌≤◌, ◌==◌, ◌⊎◌, refl, sym, ap, ◌∙◌, subst, inl, inr, true, false, Bool, eq-eqb, List, length, get_or}
+use Rattle.std.proofs.Common.{arith, ◌≡◌, ◌≢◌, ℕ, ◌+◌, ◌*◌, ◌<◌, ◌≤◌, ◌==◌, refl, sym, ap, ◌∙◌, subst, inl, inr, true, false, Bool, eq-eqb, List, length, get_or}
 use Rattle.std.specs.Prelude.{slice_set}
 use Rattle.std.proofs.lemmas.Bool.{cases_eq, cases_lt, cases_Bool, cond-true, ne_eqb, true≢false}
 use Rattle.std.proofs.lemmas.List.{get_or-set_other, get_or_past, length-set}
@@ -16,7 +16,7 @@ use Rattle.dpl_flood.specs.Events.{IsRelabelled, IsThawing}
 use Rattle.dpl_flood.specs.Holdings.{stack_of}
 use Rattle.dpl_flood.specs.Queues.{never}
 use Rattle.dpl_flood.specs.Rates.{gains_in, losses_in}
-use Rattle.dpl_flood.specs.Seas.{Sea, Grows, AreMoving, IsDueTime, IsEvent, IsTopDue, IsTopTime, AreRenewed, sides_of, tide_of, due_of, span_of}
+use Rattle.dpl_flood.specs.Seas.{Sea, Grows, AreMoving, IsDueTime, IsEvent, IsTopTime, AreRenewed, sides_of, tide_of, due_of, span_of}
 use Rattle.dpl_flood.specs.States.{sea_of, fall_of, IsGround, IsState, IsWayFrom, AreKeys, AreKeyedAround, AreKeyedOn, top_keys}
 use Rattle.dpl_flood.proofs.DueLemmas.{roused}
 use Rattle.dpl_flood.proofs.EventLemmas.{event_kept, grow_due}
@@ -150,7 +150,7 @@ looked_keys d x y top seen old between new st sizes event many ways tops on keys
 
 -- where a free top and its mate went into a tree
 pub entered_keys : (d : Dual) (x y : State) (i o : ℕ) (old new : List ℕ) → IsState d x → IsState d y → IsRelabelled x y
-    → Grows (sea_of x) i o (gains_in (place_in y.labels.items)) (losses_in (place_in y.labels.items)) (λ k. get_or y.rests.items k false)
+    → Grows (sea_of x) i o (gains_in (place_in y.tree.labels.items)) (losses_in (place_in y.tree.labels.items)) (λ k. get_or y.rests.items k false)
     → i < 2 * (sets_of x.family).size
     → AreKeyedOn d (sea_of y) o d.faces (slice_set old (length d.crosses + i) (fall_of (sea_of y) (stack_of y.held) i)) new
     → AreKeys d x old → AreKeys d y new
@@ -159,7 +159,7 @@ entered_keys d x y i o old new sx sy r grows hi on keys =
     let told = fall_of (sea_of y) (stack_of y.held) i in
     let seen : ℕ → Bool = λ k. k == i in
     let looked : ℕ → Bool = λ g. place_of (sets_of x.family) ((sea_of x).point g) == o in
-    let event = grow_due d x.seats (sea_of x) i o (gains_in (place_in y.labels.items)) (losses_in (place_in y.labels.items))
+    let event = grow_due d x.seats (sea_of x) i o (gains_in (place_in y.tree.labels.items)) (losses_in (place_in y.tree.labels.items))
     (λ k. get_or y.rests.items k false) looked seen sx.sea grows
     (λ g u e. true≢false (sym (eq-eqb (place_of (sets_of x.family) ((sea_of x).point g)) o e) ∙ u)) (eq-eqb i i refl) in
     let inside : n + i < length old = omega (arith, hi, keys.places) in
@@ -172,7 +172,7 @@ entered_keys d x y i o old new sx sy r grows hi on keys =
     )) on keys
 
 -- where a set rests no more
-pub roused_keys : (d : Dual) (x y : State) (set : ℕ) (old new : List ℕ) → IsState d x → IsState d y → IsRelabelled x y → y.labels ≡ x.labels
+pub roused_keys : (d : Dual) (x y : State) (set : ℕ) (old new : List ℕ) → IsState d x → IsState d y → IsRelabelled x y → y.tree ≡ x.tree
     → ((k : ℕ) → k ≢ set → get_or y.rests.items k false ≡ get_or x.rests.items k false) → AreKeyedOn d (sea_of y) set d.faces old new
     → AreKeys d x old → AreKeys d y new
 roused_keys d x y set old new sx sy r labels others on keys =
@@ -181,9 +181,9 @@ roused_keys d x y set old new sx sy r labels others on keys =
     let event : IsEvent d (sea_of x) (relabelled x y) looked seen = record {
       time = refl;
       turns = roused (length d.crosses) (sides_of d) (tide_of d (sea_of x)) (tide_of d (relabelled x y)) looked set (λ g. refl) (λ w. refl)
-          (λ k. ap (λ z. gains_in (place_in z.items) k) labels) (λ k. ap (λ z. losses_in (place_in z.items) k) labels) others
+          (λ k. ap (λ z. gains_in (place_in z.labels.items) k) labels) (λ k. ap (λ z. losses_in (place_in z.labels.items) k) labels) others
           (λ g u e. true≢false (sym (eq-eqb (place_of (sets_of x.family) ((sea_of x).point g)) set e) ∙ u));
-      fell = λ k _ l. sym (ap (λ z. losses_in (place_in z.items) k) labels) ∙ l;
+      fell = λ k _ l. sym (ap (λ z. losses_in (place_in z.labels.items) k) labels) ∙ l;
       value = λ k _ _. refl;
       faces = λ k f t far _ _ p q. (p, (q, refl));
     } in
@@ -206,6 +206,8 @@ thaw_none d x keys sets st k many = record {
     arena = refl;
     time = refl;
     inners = refl;
+    mates = refl;
+    joins = refl;
     labels = refl;
     rests = refl;
   };
@@ -214,7 +216,7 @@ thaw_none d x keys sets st k many = record {
 }
 
 pub thaw_more : (d : Dual) (x : State) (sets : ℕ) (y z : State) (old new : List ℕ) (i : ℕ) → IsThawing d x sets y old i → IsState d z
-    → AreKeys d z new → IsRelabelled y z → z.labels ≡ y.labels → get_or z.rests.items i false ≡ false
+    → AreKeys d z new → IsRelabelled y z → z.tree ≡ y.tree → get_or z.rests.items i false ≡ false
     → ((k : ℕ) → k ≢ i → get_or z.rests.items k false ≡ get_or y.rests.items k false) → IsThawing d x sets z new (i + 1)
 thaw_more d x sets y z old new i t st keys r labels awake others = record {
   state = st;
@@ -227,6 +229,8 @@ thaw_more d x sets y z old new i t st keys r labels awake others = record {
     arena = r.arena ∙ t.same.arena;
     time = r.time ∙ t.same.time;
     inners = r.inners ∙ t.same.inners;
+    mates = r.mates ∙ t.same.mates;
+    joins = r.joins ∙ t.same.joins;
     labels = r.labels ∙ t.same.labels;
     rests = r.rests ∙ t.same.rests;
   };

@@ -1,5 +1,5 @@
 -- Chains from the seats of members, kept for good: each is the chain of an earlier node and one way more.
-use Rattle.std.specs.Prelude.{◌≡◌, ℕ, zero, suc, ◌+◌, ◌<◌, List, [], ◌∷◌, ◌++◌, length, map, reverse, slice_index_or, Option, Some, None, MatchOption}
+use Rattle.std.specs.Prelude.{◌≡◌, ℕ, zero, suc, ◌+◌, ◌<◌, List, [], ◌∷◌, ◌++◌, length, map, reverse, slice_index_or, Option, Some, None, MatchOption, All}
 use Rattle.dpl_dual.specs.declared.crosses.Cross.{Cross}
 use Rattle.dpl_dual.specs.Chains.{IsAt, beyond}
 use Rattle.dpl_dual.specs.Duals.{way_at}
@@ -120,3 +120,4 @@ pub record IsDrawing (ways : List Cross) (old new : List Node) (x j : Join) : Ty
 pub record IsBacking (ways : List Cross) (nodes : List Node) (old out : List ℕ) (a here : ℕ) : Type 0 where
   pub inside : here < length nodes
   pub left : map (way_at ways) out ++ reverse (chain_of ways nodes here) ≡ map (way_at ways) old ++ reverse (chain_of ways nodes a)
+  pub numbers : All (λ w. w < length ways) old → All (λ w. w < length ways) out

@@ -69,7 +69,9 @@ pub record IsRelabelled (x y : State) : Type 0 where
   pub arena : y.arena ≡ x.arena
   pub time : y.time ≡ x.time
   pub inners : y.inners.items ≡ x.inners.items
-  pub labels : length y.labels.items ≡ length x.labels.items
+  pub mates : y.mates ≡ x.mates
+  pub joins : y.joins ≡ x.joins
+  pub labels : length y.tree.labels.items ≡ length x.tree.labels.items
   pub rests : length y.rests.items ≡ length x.rests.items
 
 -- A free top that does not rest, and another one that is paired with it, may go into a tree: their members' totals have the
@@ -89,5 +91,5 @@ pub record IsThawing (d : Dual) (x : State) (sets : ℕ) (y : State) (current : 
   pub keys : AreKeys d y current
   pub many : sets ≡ 2 * (sets_of x.family).size
   pub same : IsRelabelled x y
-  pub labels : y.labels ≡ x.labels
+  pub labels : y.tree ≡ x.tree
   pub awake : (k : ℕ) → k < count → slice_index_or y.rests.items k false ≡ false

@@ -1,5 +1,7 @@
 pub mod Queues
 pub mod Arenas
+pub mod Joins
+pub mod Flips
 pub mod Steps
 pub mod Dues
 pub mod Seas
@@ -9,6 +11,7 @@ pub mod TreeLaws
 pub mod Holdings
 pub mod Standings
 pub mod States
+pub mod Forested
 pub mod StateLaws
 pub mod Events
 pub mod Starts

@@ -1,10 +1,8 @@
 -- The beginning: each odd face is the seat of a member, and all else is open water.
-use Rattle.std.specs.Prelude.{◌≡◌, ℕ, ◌*◌, ◌<◌, ◌≤◌, ◌⊎◌, Some, List, length, slice_index, nat_lt, if◌then◌else◌, All}
+use Rattle.std.specs.Prelude.{◌≡◌, ℕ, ◌<◌, ◌≤◌, Some, List, length, slice_index, All}
 use Rattle.dpl_laminar.specs.Storing.{sets_of, AreOnce}
 use Rattle.dpl_dual.specs.declared.crosses.Cross.{Cross}
 use Rattle.dpl_dual.specs.declared.crosses.Dual.{Dual}
-use Rattle.dpl_tree.specs.declared.tree.Label.{Label}
-use Rattle.dpl_tree.specs.declared.tree.Label.TheVariants.{Free, Outer}
 use Rattle.dpl_flood.specs.declared.nodes.Node.{Node}
 use Rattle.dpl_flood.specs.declared.state.State.{State}
 use Rattle.dpl_flood.specs.Arenas.{AreNodes, IsThere}
@@ -38,10 +36,6 @@ pub record AreSeated (faces : List ℕ) (count : ℕ) (old : Holding) (nodes : L
   pub only : (g a : ℕ) → node_of x g ≡ Some a → (a < count) × (g ≡ slice_index faces a)
   pub places : length x.nodes ≡ length old.nodes
   pub stacks : x.stacks ≡ old.stacks
-
--- single members are outer
-abbrev pub first_label : ℕ → ℕ → Label
-first_label size k = if nat_lt k size then Outer else Free
 
 -- the ways from the first of these faces have the keys that are due
 pub record AreFirst (d : Dual) (s : Sea) (faces : List ℕ) (count : ℕ) (old new : List ℕ) : Type 0 where

@@ -33,7 +33,9 @@ pub record ArePassedOver (x y : State) (t : ℕ) (v : ℕ → ℕ) : Type 0 wher
   pub seats : y.seats ≡ x.seats
   pub held : y.held ≡ x.held
   pub arena : y.arena ≡ x.arena
-  pub labels : length y.labels.items ≡ length x.labels.items
+  pub tree : y.tree ≡ x.tree
+  pub mates : y.mates ≡ x.mates
+  pub joins : y.joins ≡ x.joins
   pub rests : length y.rests.items ≡ length x.rests.items
   pub inners : y.inners.items ≡ x.inners.items
 

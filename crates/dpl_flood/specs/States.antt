@@ -21,8 +21,8 @@ abbrev pub sea_of : State → Sea
 sea_of x = record {
   sets = sets_of x.family;
   point = point_of x.arena x.held;
-  gain = gains_in (place_in x.labels.items);
-  loss = losses_in (place_in x.labels.items);
+  gain = gains_in (place_in x.tree.labels.items);
+  loss = losses_in (place_in x.tree.labels.items);
   rests = λ k. slice_index_or x.rests.items k false;
   time = x.time;
 }
@@ -39,7 +39,7 @@ pub record IsGround (d : Dual) : Type 0 where
 pub record IsSized (d : Dual) (x : State) : Type 0 where
   pub faces : length x.held.nodes ≡ d.faces
   pub stacks : length x.held.stacks ≡ 2 * (sets_of x.family).size
-  pub labels : length x.labels.items ≡ 2 * (sets_of x.family).size
+  pub labels : length x.tree.labels.items ≡ 2 * (sets_of x.family).size
   pub rests : length x.rests.items ≡ 2 * (sets_of x.family).size
   pub inners : length x.inners.items ≡ (sets_of x.family).size
 

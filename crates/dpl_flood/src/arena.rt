@@ -1,6 +1,6 @@
 //! Chains from the seats of members, kept for good.
 
-ghost use Rattle.std.specs.Prelude.{List, ◌≡◌, ◌+◌, ◌<◌, ◌^◌, ◌++◌, ◌∷◌, [], None, length, map, reverse, IfOk, OnOk, OnErr};
+ghost use Rattle.std.specs.Prelude.{List, ◌≡◌, ◌+◌, ◌<◌, ◌^◌, ◌++◌, ◌∷◌, [], None, All, length, map, reverse, IfOk, OnOk, OnErr};
 ghost use Rattle.dpl_dual.specs.Duals.{way_at};
 ghost use Rattle.dpl_flood.specs.Arenas.{node_at, IsOver, AreNodes, IsLonger, IsThere, IsJoin, IsDrawn, IsThrough, start_of, end_of, chain_of, join_chain, join_length};
 
@@ -213,8 +213,10 @@ impl Arena {
     fn back(&self, ways: &[Cross], end: u32, found: &mut Vec<u32>) -> Result<(), AllocError>
         requires nodes { AreNodes ways.now self.now }
         requires inside { end < length self.now }
-        ensures { OnOk result (map (way_at ways.now) found.new.items
+        ensures chain { OnOk result (map (way_at ways.now) found.new.items
             ≡ map (way_at ways.now) found.old.items ++ reverse (chain_of ways.now self.now end)) }
+        ensures numbers { All (λ w. w < length ways.now) found.old.items →
+            OnOk result (All (λ w. w < length ways.now) found.new.items) }
     {
         let mut here = end;
         loop {
@@ -232,7 +234,8 @@ impl Arena {
     pub fn ways_of(&self, alloc: Global, ways: &[Cross], join: Join) -> Result<Vec<u32>, AllocError>
         requires nodes { AreNodes ways.now self.now }
         requires join { IsJoin ways.now self.now join }
-        ensures { IfOk result (λ v. map (way_at ways.now) v.items ≡ join_chain ways.now self.now join) }
+        ensures chain { IfOk result (λ v. map (way_at ways.now) v.items ≡ join_chain ways.now self.now join) }
+        ensures numbers { IfOk result (λ v. All (λ w. w < length ways.now) v.items) }
     {
         let mut found = Vec::new(alloc);
         self.back(ways, join.first, &mut found)?;

@@ -1,16 +1,17 @@
 //! The beginning: each odd face is the seat of a member, which is a single without a value and the root of a tree.
 
-ghost use Rattle.std.specs.Prelude.{◌≡◌, ℕ, ◌+◌, ◌*◌, ◌<◌, ◌≤◌, ◌^◌, Some, None, [], List, All, IfOk, length, slice_index, slice_index_or, replicate};
+ghost use Rattle.std.specs.Prelude.{◌≡◌, ℕ, ◌+◌, ◌*◌, ◌<◌, ◌≤◌, ◌^◌, Some, None, [], List, All, IfOk, length, slice_index, replicate};
 ghost use Rattle.dpl_laminar.specs.Storing.{sets_of, AreOnce};
-ghost use Rattle.dpl_tree.specs.declared.tree.Label.TheVariants.{Free};
+ghost use Rattle.dpl_flood.specs.Forested.{IsForested};
 ghost use Rattle.dpl_flood.specs.Holdings.{node_of};
 ghost use Rattle.dpl_flood.specs.Queues.{never};
-ghost use Rattle.dpl_flood.specs.Starts.{AreSeats, AreSeated, AreFirst, HasBegun, first_label};
+ghost use Rattle.dpl_flood.specs.Starts.{AreSeats, AreSeated, AreFirst, HasBegun};
 ghost use Rattle.dpl_flood.specs.States.{AreKeys, IsGround, sea_of};
 ghost use Rattle.dpl_flood.specs.Steps.{step_rows};
 
 use crate::arena::Arena;
 use crate::held::Held;
+use crate::joins::Joins;
 use crate::looks::look_around;
 use crate::queue::Queue;
 use crate::state::State;
@@ -18,7 +19,7 @@ use crate::ways::Step;
 use dpl_dual::Dual;
 use dpl_laminar::Family;
 use dpl_list::{Grouped, Items};
-use dpl_tree::Label;
+use dpl_tree::Tree;
 use std::alloc::{AllocError, Global};
 
 /// Seats a member at each of these faces.
@@ -36,29 +37,24 @@ fn seat_all(arena: &mut Arena, held: &mut Held, faces: &[u32]) -> Result<(), All
     Ok(())
 }
 
-/// How the set of a number stands at first.
-fn first_label(size: usize, set: usize) -> Label
-    ensures { result ≡ first_label size set }
+/// So many members in their order.
+fn members_below(alloc: Global, size: usize) -> Result<Vec<u32>, AllocError>
+    requires { size ≤ 2048 }
+    ensures length { IfOk result (λ members. length members.items ≡ size) }
+    ensures each { IfOk result (λ members. (k : ℕ) → k < size → slice_index members.items k ≡ k) }
 {
-    if set < size {
-        Label::Outer
-    } else {
-        Label::Free
+    let mut members = Vec::new(alloc);
+    for i in 0..size {
+        members.push(i as u32)?;
     }
+    Ok(members)
 }
 
-/// How the sets stand at first: single members are roots of trees.
-fn first_labels(alloc: Global, size: usize) -> Result<Vec<Label>, AllocError>
-    requires { size ≤ 2048 }
-    ensures length { IfOk result (λ labels. length labels.items ≡ 2 * size) }
-    ensures each { IfOk result (λ labels. (k : ℕ) → k < 2 * size →
-        slice_index_or labels.items k Free ≡ first_label size k) }
+/// So many members without mates.
+fn no_mates(alloc: Global, size: usize) -> Result<Vec<Option<u32>>, AllocError>
+    ensures { IfOk result (λ mates. mates.items ≡ replicate size None) }
 {
-    let mut labels = Vec::new(alloc);
-    for i in 0..2 * size {
-        labels.push(first_label(size, i))?;
-    }
-    Ok(labels)
+    Ok(vec![in alloc; None; size]?)
 }
 
 impl State {
@@ -67,6 +63,7 @@ impl State {
         requires ground { IsGround dual.now }
         requires seats { AreSeats dual.now faces.now }
         ensures begun { IfOk result (HasBegun dual.now) }
+        ensures forest { IfOk result (IsForested dual.now) }
         ensures seats { IfOk result (λ x. x.seats ≡ faces.now) }
     {
         let size = faces.len();
@@ -74,18 +71,22 @@ impl State {
         let mut held = Held::new(alloc, dual.faces as usize, 2 * size)?;
         seat_all(&mut arena, &mut held, faces)?;
         let family = Family::new(alloc, size as u32)?;
-        let labels = first_labels(alloc, size)?;
+        let members = members_below(alloc, size)?;
+        let tree = Tree::of_roots(alloc, &family, members.as_slice(), size)?;
+        let mates = no_mates(alloc, size)?;
         let rests = vec![in alloc; false; 2 * size]?;
         let inners = vec![in alloc; 0; size]?;
         let seats = Items::new(Vec::from_slice(alloc, faces)?);
         Ok(State {
             family,
             seats,
-            labels,
+            tree,
+            mates,
             rests,
             inners,
             held,
             arena,
+            joins: Joins::new(alloc),
             time: 0,
         })
     }

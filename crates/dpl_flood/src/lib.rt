@@ -8,8 +8,8 @@
 //!
 //! `Queue` has a key for each place and answers the least one. `Arena` keeps chains for good: a node is the last way of a
 //! chain from the seat of a member to a face, and nodes are only added. A `Join` is two such chains and a way between
-//! them, so it is a chain from seat to seat. `steps_at` gives the ways at each face, with their numbers. No program runs
-//! on this crate yet.
+//! them, so it is a chain from seat to seat. `Joins` has one for any two members that are joined. `steps_at` gives the
+//! ways at each face, with their numbers. No program runs on this crate yet.
 #![tactic(auto)]
 
 mod arena;
@@ -17,10 +17,13 @@ mod beginning;
 mod chains;
 mod coming;
 mod event;
+mod flipping;
 mod held;
+mod joins;
 mod laws;
 mod looks;
 mod nodes;
+mod pairs;
 mod passing;
 mod queue;
 mod relabelling;
@@ -39,13 +42,16 @@ pub use beginning::first_keys;
 pub use chains::{chains_stay, joins_lead, steps_are};
 pub use coming::next;
 pub use event::{Crossing, Event};
+pub use flipping::flip_join;
 pub use held::Held;
+pub use joins::{Joins, joins_are_far, joins_stay};
 pub use laws::{
     events_keep_seas, keys_tell_events, names_keep_time, stacks_tell_falls, states_keep_keys,
     time_keeps_seas, trees_move_tops,
 };
 pub use looks::{look_around, look_set, look_top, look_way};
 pub use nodes::{Join, Last, Node};
+pub use pairs::join_pairs;
 pub use passing::advance;
 pub use queue::Queue;
 pub use relabelling::{cease, grow, rouse};

@@ -8,6 +8,7 @@ ghost use Rattle.dpl_tree.specs.declared.tree.Label.TheVariants.{Free};
 ghost use Rattle.dpl_tree.specs.steps.Forests.{free, inner, outer, gain, drop_of};
 ghost use Rattle.dpl_tree.specs.Views.{place_of, place_in};
 ghost use Rattle.dpl_flood.specs.Dues.{NoneRests};
+ghost use Rattle.dpl_flood.specs.Forested.{IsForested};
 ghost use Rattle.dpl_flood.specs.Queues.{IsFirst};
 ghost use Rattle.dpl_flood.specs.Seas.{ArePassed, tide_of};
 ghost use Rattle.dpl_flood.specs.StateLaws.{ArePassedOver};
@@ -94,7 +95,7 @@ fn pass<L: Ledger>(state: &mut State, time: u64, steps: &mut Steps<L>)
     ensures steps { steps.new ≤ steps.old + 2 * (sets_of state.old.family).size }
 {
     let span = time - state.time;
-    pass_all(&mut state.family, &state.labels, span, steps);
+    pass_all(&mut state.family, &state.tree.labels, span, steps);
     state.time = time;
 }
 
@@ -109,6 +110,7 @@ pub fn advance<L: Ledger>(state: &mut State, dual: &Dual, queue: &Queue, steps: 
     ensures values { ArePassed (sea_of state.old) state.new.time (sets_of state.new.family).value }
     ensures over { ArePassedOver state.old state.new state.new.time (sets_of state.new.family).value }
     ensures state { IsState dual.now state.new }
+    ensures forest { IsForested dual.now state.old → IsForested dual.now state.new }
     ensures keys { AreKeys dual.now state.new queue.now }
     ensures steps { steps.new ≤ steps.old + 2 * (sets_of state.old.family).size }
 {

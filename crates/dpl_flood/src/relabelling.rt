@@ -16,13 +16,13 @@ use dpl_tree::Label;
 pub fn grow(state: &mut State, inner: u32, outer: u32)
     requires state { (d : Dual) × IsState d state.old }
     requires free { MayGrow (sea_of state.old) inner outer }
-    ensures grows { Grows (sea_of state.old) inner outer (gains_in (place_in state.new.labels.items))
-        (losses_in (place_in state.new.labels.items)) (λ k. slice_index_or state.new.rests.items k false) }
+    ensures grows { Grows (sea_of state.old) inner outer (gains_in (place_in state.new.tree.labels.items))
+        (losses_in (place_in state.new.tree.labels.items)) (λ k. slice_index_or state.new.rests.items k false) }
     ensures rest { IsRelabelled state.old state.new }
     ensures state { (d : Dual) → IsState d state.old → IsState d state.new }
 {
-    state.labels[inner as usize] = Label::Inner;
-    state.labels[outer as usize] = Label::Outer;
+    state.tree.labels[inner as usize] = Label::Inner;
+    state.tree.labels[outer as usize] = Label::Outer;
     state.rests[outer as usize] = false;
 }
 
@@ -30,13 +30,13 @@ pub fn grow(state: &mut State, inner: u32, outer: u32)
 pub fn cease(state: &mut State, set: u32)
     requires state { (d : Dual) × IsState d state.old }
     requires set { set < 2 * (sets_of state.old.family).size }
-    ensures ceases { Ceases (sea_of state.old) (gains_in (place_in state.new.labels.items))
-        (losses_in (place_in state.new.labels.items)) (λ k. slice_index_or state.new.rests.items k false) }
+    ensures ceases { Ceases (sea_of state.old) (gains_in (place_in state.new.tree.labels.items))
+        (losses_in (place_in state.new.tree.labels.items)) (λ k. slice_index_or state.new.rests.items k false) }
     ensures rest { IsRelabelled state.old state.new }
     ensures state { (d : Dual) → IsState d state.old → IsState d state.new }
     ensures keys { (d : Dual) (keys : List ℕ) → IsState d state.old → AreKeys d state.old keys → AreKeys d state.new keys }
 {
-    state.labels[set as usize] = Label::Free;
+    state.tree.labels[set as usize] = Label::Free;
     state.rests[set as usize] = true;
 }
 
@@ -44,7 +44,7 @@ pub fn cease(state: &mut State, set: u32)
 pub fn rouse(state: &mut State, set: u32)
     requires state { (d : Dual) × IsState d state.old }
     requires set { set < 2 * (sets_of state.old.family).size }
-    ensures labels { state.new.labels ≡ state.old.labels }
+    ensures tree { state.new.tree ≡ state.old.tree }
     ensures awake { slice_index_or state.new.rests.items set false ≡ false }
     ensures others { (k : ℕ) → k ≢ set →
         slice_index_or state.new.rests.items k false ≡ slice_index_or state.old.rests.items k false }

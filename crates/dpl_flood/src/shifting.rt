@@ -3,6 +3,7 @@
 ghost use Rattle.std.specs.Prelude.{◌≡◌, ℕ, OnOk, OnErr};
 ghost use Rattle.dpl_dual.specs.declared.crosses.Dual.{Dual};
 ghost use Rattle.dpl_flood.specs.Events.{HasCome, Reaches, Shrinks};
+ghost use Rattle.dpl_flood.specs.Forested.{IsForested};
 ghost use Rattle.dpl_flood.specs.States.{IsState, AreKeys, IsTaken, IsLeft, sea_of};
 ghost use Rattle.dpl_flood.specs.Steps.{step_rows};
 
@@ -31,6 +32,7 @@ pub fn reach(
     ensures ok { OnOk result (IsTaken dual.now state.old state.new ahead.to) }
     ensures err { OnErr result (sea_of state.new ≡ sea_of state.old) }
     ensures state { IsState dual.now state.new }
+    ensures forest { IsForested dual.now state.old → IsForested dual.now state.new }
     ensures keys { AreKeys dual.now state.new queue.new }
 {
     take(state, dual, ahead.from, ahead.way, ahead.to)?;
@@ -46,6 +48,7 @@ pub fn retreat(state: &mut State, dual: &Dual, steps: &Grouped<Step>, queue: &mu
     requires shrinks { Shrinks state.old set }
     ensures left { (face : ℕ) × IsLeft state.old state.new set face }
     ensures state { IsState dual.now state.new }
+    ensures forest { IsForested dual.now state.old → IsForested dual.now state.new }
     ensures keys { AreKeys dual.now state.new queue.new }
 {
     let face = leave(state, set);
@@ -65,6 +68,7 @@ pub fn shift(
     requires steps { steps.now ≡ step_rows dual.now.crosses dual.now.faces }
     requires come { HasCome dual.now state.old event }
     ensures state { IsState dual.now state.new }
+    ensures forest { IsForested dual.now state.old → IsForested dual.now state.new }
     ensures keys { AreKeys dual.now state.new queue.new }
 {
     match event {

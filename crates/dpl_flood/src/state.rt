@@ -13,12 +13,13 @@ ghost use Rattle.dpl_flood.specs.States.{IsState, sea_of, fall_of};
 
 use crate::arena::Arena;
 use crate::held::Held;
+use crate::joins::Joins;
 use crate::standing::{Standing, due};
 use crate::ways::way_of;
 use dpl_dual::Dual;
 use dpl_laminar::Family;
 use dpl_list::Items;
-use dpl_tree::Label;
+use dpl_tree::{Label, Tree};
 
 /// Moats around the odd faces of a part, and how they move.
 #[derive(Drop)]
@@ -26,23 +27,28 @@ pub struct State {
     pub family: Family,
     /// By member its face.
     pub seats: Items<u32>,
-    /// By set how it stands in the trees, and whether it rests.
-    pub labels: Vec<Label>,
+    /// How the tops stand in trees.
+    pub tree: Tree,
+    /// By member its mate, where it keeps the pair of its top.
+    pub mates: Vec<Option<u32>>,
+    /// By set whether it rests.
     pub rests: Vec<bool>,
     /// By member what the sets strictly inside its top have.
     pub inners: Vec<u64>,
     pub held: Held,
     pub arena: Arena,
+    /// What two tops that met have over their way.
+    pub joins: Joins,
     pub time: u64,
 }
 
 impl State {
     /// How a set stands in the trees.
     fn label(&self, set: u32) -> Label
-        requires { set < length self.now.labels.items }
-        ensures { result ≡ slice_index_or self.now.labels.items set Free }
+        requires { set < length self.now.tree.labels.items }
+        ensures { result ≡ slice_index_or self.now.tree.labels.items set Free }
     {
-        self.labels[set as usize]
+        self.tree.label(set)
     }
 
     /// Whether a set rests.

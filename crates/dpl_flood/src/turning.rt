@@ -4,6 +4,7 @@ ghost use Rattle.std.specs.Prelude.{◌≡◌, ◌≢◌, ℕ, ◌*◌, ◌<◌,
 ghost use Rattle.dpl_laminar.specs.Storing.{sets_of};
 ghost use Rattle.dpl_tree.specs.Views.{place_in};
 ghost use Rattle.dpl_flood.specs.Events.{IsRelabelled, MayGrow};
+ghost use Rattle.dpl_flood.specs.Forested.{IsForested};
 ghost use Rattle.dpl_flood.specs.Rates.{gains_in, losses_in};
 ghost use Rattle.dpl_flood.specs.Seas.{Grows};
 ghost use Rattle.dpl_flood.specs.States.{IsState, AreKeys, sea_of};
@@ -30,8 +31,8 @@ pub fn enter(
     requires keys { AreKeys dual.now state.old queue.old }
     requires steps { steps.now ≡ step_rows dual.now.crosses dual.now.faces }
     requires free { MayGrow (sea_of state.old) inner outer }
-    ensures grows { Grows (sea_of state.old) inner outer (gains_in (place_in state.new.labels.items))
-        (losses_in (place_in state.new.labels.items)) (λ k. slice_index_or state.new.rests.items k false) }
+    ensures grows { Grows (sea_of state.old) inner outer (gains_in (place_in state.new.tree.labels.items))
+        (losses_in (place_in state.new.tree.labels.items)) (λ k. slice_index_or state.new.rests.items k false) }
     ensures rest { IsRelabelled state.old state.new }
     ensures state { IsState dual.now state.new }
     ensures keys { AreKeys dual.now state.new queue.new }
@@ -47,7 +48,7 @@ fn wake(state: &mut State, dual: &Dual, steps: &Grouped<Step>, queue: &mut Queue
     requires keys { AreKeys dual.now state.old queue.old }
     requires steps { steps.now ≡ step_rows dual.now.crosses dual.now.faces }
     requires set { set < 2 * (sets_of state.old.family).size }
-    ensures labels { state.new.labels ≡ state.old.labels }
+    ensures tree { state.new.tree ≡ state.old.tree }
     ensures awake { slice_index_or state.new.rests.items set false ≡ false }
     ensures others { (k : ℕ) → k ≢ set →
         slice_index_or state.new.rests.items k false ≡ slice_index_or state.old.rests.items k false }
@@ -67,10 +68,11 @@ pub fn thaw(state: &mut State, dual: &Dual, steps: &Grouped<Step>, queue: &mut Q
     requires state { IsState dual.now state.old }
     requires keys { AreKeys dual.now state.old queue.old }
     requires steps { steps.now ≡ step_rows dual.now.crosses dual.now.faces }
-    ensures labels { state.new.labels ≡ state.old.labels }
+    ensures tree { state.new.tree ≡ state.old.tree }
     ensures awake { (k : ℕ) → slice_index_or state.new.rests.items k false ≡ false }
     ensures rest { IsRelabelled state.old state.new }
     ensures state { IsState dual.now state.new }
+    ensures forest { IsForested dual.now state.old → IsForested dual.now state.new }
     ensures keys { AreKeys dual.now state.new queue.new }
 {
     let sets = state.rests.len();

@@ -1,4 +1,3 @@
-use Rattle.std.proofs.Common.{arith}
 use Rattle.dpl_flood.specs.States.{sea_of}
 use Rattle.dpl_flood.proofs.BeginLemmas.{first_none, first_more}
 use Rattle.dpl_flood.proofs.beginning.look_at_all.Goals as goal

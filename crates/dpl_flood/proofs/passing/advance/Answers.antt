@@ -6,6 +6,7 @@ use Rattle.dpl_flood.specs.Seas.{AreLate}
 use Rattle.dpl_flood.specs.States.{sea_of, top_keys}
 use Rattle.dpl_flood.proofs.ClockLemmas.{first_late}
 use Rattle.dpl_flood.proofs.PassLemmas.{passed_stands}
+use Rattle.dpl_flood.proofs.TreedLemmas.{forest_passed}
 use Rattle.dpl_flood.proofs.passing.advance.Goals as goal
 
 pub pass-requires-clause-early : goal.pass-requires-clause-early
@@ -32,3 +33,7 @@ returns-clause-keys g c =
     (passed_stands d x y c.max-time.result (sets_of y.family).value c.args.queue.now c.requires.state c.requires.keys late c.requires.awake c.pass.ensures.values
     (omega (arith, clamps, c.max-time.ensures, c.requires.early c.first.result c.first.ensures, c.requires.state.early))
     (λ k h. c.pass.ensures.family.value_small k) c.pass.ensures.over).1
+
+pub returns-clause-forest : goal.returns-clause-forest
+returns-clause-forest g c = λ f. forest_passed c.args.dual.now c.args.state.now c.pass.new.state c.max-time.result (sets_of c.pass.new.state.family).value f
+    (returns-clause-state g c) c.pass.ensures.values c.pass.ensures.over

@@ -5,7 +5,7 @@ use Rattle.dpl_flood.proofs.relabelling.cease.Goals as goal
 
 pub index_mut-requires : goal.index_mut-requires
 index_mut-requires c =
-    let low : c.args.set < length c.args.state.now.labels.items = omega (arith, c.requires.set, c.requires.state.1.sized.labels) in
+    let low : c.args.set < length c.args.state.now.tree.labels.items = omega (arith, c.requires.set, c.requires.state.1.sized.labels) in
     search rules
 
 pub index_mut-requires-2 : goal.index_mut-requires-2
@@ -25,7 +25,9 @@ returns-clause-keys c = λ d keys st k. ceased_keys d c.args.state.now _ keys st
       arena = refl;
       time = refl;
       inners = refl;
-      labels = length-set c.args.state.now.labels.items c.args.set _;
+      mates = refl;
+      joins = refl;
+      labels = length-set c.args.state.now.tree.labels.items c.args.set _;
       rests = length-set c.args.state.now.rests.items c.args.set _;
     })
     (ceased d c.args.state.now c.args.set _ _ st c.requires.set refl refl) k

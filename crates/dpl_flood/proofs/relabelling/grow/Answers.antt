@@ -4,13 +4,13 @@ use Rattle.dpl_flood.proofs.relabelling.grow.Goals as goal
 
 pub index_mut-requires : goal.index_mut-requires
 index_mut-requires c =
-    let low : c.args.inner < length c.args.state.now.labels.items =
+    let low : c.args.inner < length c.args.state.now.tree.labels.items =
     omega (arith, (c.requires.free.tops c.args.inner (inl refl)).0, c.requires.state.1.sized.labels) in
     search rules
 
 pub index_mut-requires-2 : goal.index_mut-requires-2
 index_mut-requires-2 c =
-    let low : c.args.outer < length c.args.state.now.labels.items =
+    let low : c.args.outer < length c.args.state.now.tree.labels.items =
     omega (arith, (c.requires.free.tops c.args.outer (inr refl)).0, c.requires.state.1.sized.labels) in
     search rules
 

@@ -1,4 +1,4 @@
-use Rattle.std.proofs.Common.{arith, ap, inl, inr, refl, subst}
+use Rattle.std.proofs.Common.{arith, ap, inl, refl, subst}
 use Rattle.dpl_laminar.specs.Storing.{sets_of}
 use Rattle.dpl_flood.specs.States.{AreKeyedOn, sea_of}
 use Rattle.dpl_flood.proofs.TurnLemmas.{entered_keys}

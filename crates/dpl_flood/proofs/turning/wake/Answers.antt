@@ -3,5 +3,5 @@ use Rattle.dpl_flood.proofs.turning.wake.Goals as goal
 
 pub returns-clause-keys : goal.returns-clause-keys
 returns-clause-keys c = roused_keys c.args.dual.now c.args.state.now c.rouse.new.state c.args.set c.args.queue.now c.look_top.new.queue
-    c.requires.state (c.rouse.ensures.state c.args.dual.now c.requires.state) c.rouse.ensures.rest c.rouse.ensures.labels c.rouse.ensures.others
+    c.requires.state (c.rouse.ensures.state c.args.dual.now c.requires.state) c.rouse.ensures.rest c.rouse.ensures.tree c.rouse.ensures.others
     c.look_top.ensures.keys c.requires.keys
