@@ -4,6 +4,7 @@ mod ArenaLemmas
 mod JoinLemmas
 mod NotedLemmas
 mod ChainedLemmas
+mod HolderLemmas
 mod StepLemmas
 pub mod DueLemmas
 pub mod ShoreLemmas
