@@ -185,13 +185,13 @@ gave_way {n} {f} {g} {dist} {t0} {t1} {t2} {set} {first} {p} {sets} {ss} {ws} {j
     }
 
 -- and of all others none but its children stand otherwise
-pub given_so : {f g : Sets} {dist : ℕ → ℕ → ℕ} {t0 t1 t2 : Tree} {set first p : ℕ} {mates : List (Option ℕ)}
-    → {sets ss ws : List ℕ} {joins ks : List (ℕ × ℕ)} (new : List (Option ℕ)) → IsStage f.size f dist (forest_of t0 mates)
+pub given_so : {f g : Sets} {dist : ℕ → ℕ → ℕ} {set first p : ℕ} {sets ss ws : List ℕ} {joins ks : List (ℕ × ℕ)}
+    → (t0 t1 t2 : Tree) (mates new : List (Option ℕ)) → IsStage f.size f dist (forest_of t0 mates)
     → IsOpening f.size f dist (forest_of t0 mates) set (around sets joins p) → IsExpanded f set g → IsFamily g
     → ss ≡ sets → first ≡ get_or ss 0 0 → Opens (forest_of t0 mates) set first p (forest_of t1 new)
     → ws ≡ sets → ks ≡ joins → lists_of t2 ≡ walked_times (lists_of t1) ws ks (p / 2)
     → HasGivenWay f (forest_of t0 mates) set g (forest_of t2 new)
-given_so {f} {g} {dist} {t0} {t1} {t2} {set} {first} {p} {mates} {sets} {ss} {ws} {joins} {ks} new st o ex fam es is op ew ek walked =
+given_so {f} {g} {dist} {set} {first} {p} {sets} {ss} {ws} {joins} {ks} t0 t1 t2 mates new st o ex fam es is op ew ek walked =
     let wk : lists_of t2 ≡ walked_times (lists_of t1) sets ks (p / 2) =
     subst (λ (z : List ℕ). lists_of t2 ≡ walked_times (lists_of t1) z ks (p / 2)) ew walked in
     let el : lists_of t2 ≡ walked_times (lists_of t1) sets joins (p / 2) =

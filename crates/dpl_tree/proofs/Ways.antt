@@ -58,7 +58,7 @@ way_turned n f dist x begin start mates s t ex b m len st g hx top w =
     let less : List (Option ℕ) = set (set mates ex None) b None in
     let size : length less ≡ n = length-set (set mates ex None) b None ∙ length-set mates ex None ∙ len in
     climbed n f dist x begin (mate_in mates) (mate_in less) _ start s t ex b st.tree (load_turned n f)
-    m.symmetric g (record { below = hx; top = top; paired = w })
+    m g (record { below = hx; top = top; paired = w })
     (drops_list mates ex b (omega (arith, hx, len)) (omega (arith, hb, len)))
     (joins_list less s t (omega (arith, c.s_range, size)) (omega (arith, c.t_range, size))
     (λ q. c.apart (ap f.top q)))

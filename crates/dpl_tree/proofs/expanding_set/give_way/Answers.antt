@@ -56,7 +56,7 @@ returns-clause-next g c = λ dist by.
 pub returns-clause-given : goal.returns-clause-given
 returns-clause-given g c =
     let k = c.requires.stage in
-    given_so c.pair_round.new.mates k.1.stage (c.in_ok-path.ensures k.0 k.1) c.expand.ensures.value c.expand.ensures.family c.deref-2.ensures.value
+    given_so c.args.tree.now c.enter.new.tree c.walk.new.tree c.args.mates.now c.pair_round.new.mates k.1.stage (c.in_ok-path.ensures k.0 k.1) c.expand.ensures.value c.expand.ensures.family c.deref-2.ensures.value
     c.first_set-first.ensures (c.enter.ensures.opens c.args.mates.now c.pair_round.new.mates)
     c.deref-3.ensures.value c.deref-4.ensures.value c.walk.ensures.walked
 

@@ -1,11 +1,12 @@
 use Rattle.std.proofs.Common.{arith, sym, ap, ◌∙◌, length}
 use Rattle.dpl_tree.proofs.Folded.{folding_of, folding_from, folding_asked, tops_seen, free_outside_of, folding_step, folding_ends, folded_up, folded_so}
+use Rattle.dpl_tree.proofs.Growing.{outer_in}
 use Rattle.dpl_tree.proofs.Nexts.{event_next}
 use Rattle.dpl_tree.proofs.Widening.{folded_by}
 use Rattle.dpl_tree.proofs.fold_up.fold.Goals as goal
 
-pub meet-meeting-requires-clause-stage : goal.meet-meeting-requires-clause-stage
-meet-meeting-requires-clause-stage g c = let k = c.requires.tight in (k.0, k.1.by)
+pub meet-requires-clause-stage : goal.meet-requires-clause-stage
+meet-requires-clause-stage g c = let k = c.requires.tight in (k.0, k.1.by)
 
 pub tops_of-requires : goal.tops_of-requires
 tops_of-requires g c =
@@ -31,6 +32,12 @@ replace-requires-clause-outside g c =
     let w = folding_of st q.pair.from q.pair.to k.1.tight q.pair.apart (c.in_ok-meeting.ensures k.0 k.1.by) c.in_ok-joins.ensures c.deref-3.ensures.value in
     let tops = tops_seen w c.in_ok-children.ensures c.deref.ensures.value c.deref-3.ensures.value in
     free_outside_of st w (c.deref-2.ensures.value ∙ tops) (c.deref-4.ensures.value ∙ tops) c.in_ok-set.ensures.ok
+
+pub replace-requires-clause-meet : goal.replace-requires-clause-meet
+replace-requires-clause-meet g c =
+    let q = c.requires in
+    let k = q.tight in
+    omega (arith, (k.1.by.stage.tree.tops c.in_ok-meeting.meeting.meet (outer_in (c.in_ok-meeting.ensures k.0 k.1.by).sets.a_outer)).0, q.sized.labels)
 
 pub drop_inside-requires-clause-from : goal.drop_inside-requires-clause-from
 drop_inside-requires-clause-from g c = λ i h.

@@ -1,12 +1,29 @@
-use Rattle.std.proofs.Common.{arith, ◌≡◌, ◌<◌, ◌≤◌, ℕ, sym, ap, ◌∙◌, get_or}
+use Rattle.std.proofs.Common.{arith, ◌≡◌, ◌<◌, ◌≤◌, ℕ, sym, ap, subst, ◌∙◌, get_or}
 use Rattle.dpl_laminar.specs.Families.{Sets}
 use Rattle.dpl_laminar.specs.Storing.{sets_of}
 use Rattle.dpl_tree.specs.Mates.{loads}
 use Rattle.dpl_tree.specs.steps.Forests.{Forest}
+use Rattle.dpl_tree.specs.steps.Joins.{AreClimbing, ways}
 use Rattle.dpl_tree.specs.Views.{forest_of}
 use Rattle.dpl_tree.proofs.Events.{higher_pair}
 use Rattle.dpl_tree.proofs.Meetings.{step_of, climbing_left, climbing_right}
+use Rattle.dpl_tree.proofs.Growing.{outer_in}
 use Rattle.dpl_tree.proofs.meeting.meet.Goals as goal
+
+pub returns-then-a-b : goal.returns-then-a-b
+returns-then-a-b c = λ dist by. subst (λ (z : ℕ). AreClimbing (sets_of c.args.family.now).size (sets_of c.args.family.now) dist
+    (forest_of c.args.tree.now c.args.mates.now) (c.args.s, c.args.t) (ways c.climb.left.items c.climb.right.items c.climb.a z))
+    (sym c.if-a-b.true) (c.climb.invariant dist by)
+
+pub rank-rank_a-requires : goal.rank-rank_a-requires
+rank-rank_a-requires c =
+    let k = c.requires.stage in
+    omega (arith, (k.1.stage.tree.tops c.climb.a (outer_in (c.climb.invariant k.0 k.1).sets.a_outer)).0, c.requires.sized.ranks)
+
+pub rank-rank_b-requires : goal.rank-rank_b-requires
+rank-rank_b-requires c =
+    let k = c.requires.stage in
+    omega (arith, (k.1.stage.tree.tops c.climb.b (outer_in (c.climb.invariant k.0 k.1).sets.b_outer)).0, c.requires.sized.ranks)
 
 pub step_up-up-requires-clause-paired : goal.step_up-up-requires-clause-paired
 step_up-up-requires-clause-paired c =

@@ -1,4 +1,7 @@
-use Rattle.dpl_tree.specs.Views.{mate_in}
+use Rattle.std.proofs.Common.{sym, ◌∙◌}
+use Rattle.dpl_laminar.proofs.Numbers.{some_none}
+use Rattle.dpl_laminar.specs.Storing.{sets_of}
+use Rattle.dpl_tree.specs.Views.{mate_in, forest_of}
 use Rattle.dpl_tree.proofs.Ways.{parted, parted_way, parted_ended, release_none}
 use Rattle.dpl_tree.proofs.way.release.Goals as goal
 
@@ -15,3 +18,8 @@ returns-in-Some c = λ dist by.
     let p = parted {tree = c.args.tree.now} {t = c.args.t} by.stage q.mates c.in-Some.ensures c.tops.ensures.value c.tops-in-Some.ensures.value c.link-above.ensures c.part.ensures in
     let way = parted_way by.symmetric by.stage q.is_outer p in
     parted_ended by.stage q.is_outer p (c.augment.ensures dist (mate_in c.args.mates.now) by.symmetric way)
+
+pub returns-in-None : goal.returns-in-None
+returns-in-None c = λ dist by. release_none (sets_of c.args.family.now).size (sets_of c.args.family.now) dist
+    (forest_of c.args.tree.now c.args.mates.now) c.args.t by.stage c.requires.is_outer
+    (λ m u w. some_none (mate_in c.args.mates.now m) u w.paired (c.in-None.ensures m w.below (w.top ∙ sym c.tops.ensures.value)))
