@@ -1,4 +1,4 @@
-use Rattle.std.proofs.Common.{arith, sym, ap, ◌∙◌, length}
+use Rattle.std.proofs.Common.{arith, ◌∙◌}
 use Rattle.dpl_tree.proofs.Folded.{folding_of, folding_from, folding_asked, tops_seen, free_outside_of, folding_step, folding_ends, folded_up, folded_so}
 use Rattle.dpl_tree.proofs.Growing.{outer_in}
 use Rattle.dpl_tree.proofs.Nexts.{event_next}

@@ -1,8 +1,5 @@
-use Rattle.std.proofs.Common.{arith, ◌≡◌, ℕ, ◌<◌, List, ap, ◌∙◌, get_or, refl}
+use Rattle.std.proofs.Common.{arith, ℕ, List, ap, ◌∙◌, get_or}
 use Rattle.dpl_laminar.specs.Storing.{sets_of}
-use Rattle.dpl_tree.specs.steps.Growth.{IsRestBy}
-use Rattle.dpl_tree.specs.steps.Parted.{ArePartedBy}
-use Rattle.dpl_tree.specs.Views.{mate_in}
 use Rattle.dpl_tree.proofs.PartedLemmas.{parts_begun, classes_whole}
 use Rattle.dpl_tree.proofs.inside.pair_inside.Goals as goal
 
@@ -14,9 +11,11 @@ part_all-requires-clause-small c = c.requires.rest.1.rest.family.small
 
 pub part_all-requires-clause-begun : goal.part_all-requires-clause-begun
 part_all-requires-clause-begun c =
-    let k = c.requires.rest in
-    (k.0, parts_begun c.args.mates.now c.deref_mut.result.now k.1 c.requires.covered
-    (λ m h. ap (λ (z : List ℕ). get_or z m 0) c.deref_mut.ensures.value ∙ c.in-Ok.ensures.each m (omega (arith, h, c.requires.mates))))
+    let k = c.requires.rest in (
+      k.0,
+      parts_begun c.args.mates.now c.deref_mut.result.now k.1 c.requires.covered
+          (λ m h. ap (λ (z : List ℕ). get_or z m 0) c.deref_mut.ensures.value ∙ c.in-Ok.ensures.each m (omega (arith, h, c.requires.mates))),
+    )
 
 pub returns-in-Ok-all_mates-clause-done : goal.returns-in-Ok-all_mates-clause-done
 returns-in-Ok-all_mates-clause-done c = λ dist by.
