@@ -11,7 +11,7 @@ ghost use Rattle.dpl_pack.specs.Floods.{AreTight, IsFlood};
 ghost use Rattle.dpl_flood.specs.declared.nodes.Join.{Join};
 ghost use Rattle.dpl_flood.specs.Arenas.{AreNodes, join_chain};
 ghost use Rattle.dpl_flood.specs.Flips.{AreFlipped, AreJoinedBy, AreOverChains, ArePairsJoined};
-ghost use Rattle.dpl_flood.specs.Joins.{AreJoins, HaveSeats, IsTied, dist_in, join_at};
+ghost use Rattle.dpl_flood.specs.Joins.{AreJoins, HaveSeats, dist_in, join_at};
 
 use crate::arena::Arena;
 use crate::flipping::flip_join;
@@ -60,8 +60,8 @@ pub fn join_pairs(
     requires few { length seats.now ≤ 2048 }
     requires members { length mate.now ≡ length seats.now }
     requires pairing { IsPairing (length seats.now) (slice_index mate.now) }
-    requires tied { (f : Sets) × ((m : ℕ) → m < length seats.now →
-        IsTied ways.now arena.now joins.now f m (slice_index mate.now m)) }
+    requires some { (m : ℕ) → m < length seats.now →
+        (j : Join) × (join_at joins.now m (slice_index mate.now m) ≡ Some j) }
     requires places { All (λ x. x.edge < length joined.old) ways.now }
     ensures { OnOk result ((f : Sets) → ArePairsJoined ways.now seats.now (slice_index mate.now)
         (dist_in ways.now arena.now joins.now f) (length seats.now) joined.old joined.new) }

@@ -1,4 +1,4 @@
-use Rattle.std.proofs.Common.{arith, ◌≡◌, ◌<◌, ℕ, length, List, subst, sym}
+use Rattle.std.proofs.Common.{arith, ◌≡◌, ◌<◌, Some, length, subst, sym}
 use Rattle.std.specs.Prelude.{slice_index}
 use Rattle.std.proofs.Math.Path.{subst₂}
 use Rattle.dpl_laminar.specs.Pairings.{IsPairing}
@@ -6,8 +6,9 @@ use Rattle.dpl_laminar.specs.Storing.{sets_of}
 use Rattle.dpl_tree.specs.Views.{mate_in}
 use Rattle.dpl_tree.specs.steps.Parted.{IsDone}
 use Rattle.dpl_pack.specs.Floods.{AreTight}
+use Rattle.dpl_flood.specs.declared.nodes.Join.{Join}
 use Rattle.dpl_flood.specs.Flips.{ArePairsJoined}
-use Rattle.dpl_flood.specs.Joins.{AreJoins, IsTied, dist_in}
+use Rattle.dpl_flood.specs.Joins.{AreJoins, dist_in, join_at}
 use Rattle.dpl_flood.proofs.PairLemmas.{rest_by, pairs_tied, pairs_tight, pairs_are_joined, pairs_least}
 use Rattle.dpl_flood.proofs.pairs.join_all.Goals as goal
 
@@ -29,18 +30,17 @@ join_pairs-requires-clause-pairing c =
     c.in_ok-mate.ensures.done far (rest_by c.args.dual.now.crosses c.args.arena.now c.args.joins.now f (mate_in c.args.mates.now) c.requires.rest) in
     subst₂ (λ n z. IsPairing n (slice_index z)) c.requires.members (sym c.deref.ensures.value) done.pairs
 
-pub join_pairs-requires-clause-tied : goal.join_pairs-requires-clause-tied
-join_pairs-requires-clause-tied c =
+pub join_pairs-requires-clause-some : goal.join_pairs-requires-clause-some
+join_pairs-requires-clause-some c =
     let f = sets_of c.args.family.now in
     let ways = c.args.dual.now.crosses in
     let far = dist_in ways c.args.arena.now c.args.joins.now f in
     let mate = slice_index c.in_ok-mate.mate.items in
     let done : IsDone f.size f far mate =
-    c.in_ok-mate.ensures.done far (rest_by ways c.args.arena.now c.args.joins.now f (mate_in c.args.mates.now) c.requires.rest) in (
-      f,
-      λ m h. subst₂ (λ w z. IsTied w c.args.arena.now c.args.joins.now f m (slice_index z m)) (sym c.as_slice.ensures) (sym c.deref.ensures.value)
-          (pairs_tied ways c.args.arena.now c.args.joins.now f mate done m (omega (arith, h, c.requires.members))),
-    )
+    c.in_ok-mate.ensures.done far (rest_by ways c.args.arena.now c.args.joins.now f (mate_in c.args.mates.now) c.requires.rest) in
+    λ m h.
+    let tied = pairs_tied ways c.args.arena.now c.args.joins.now f mate done m (omega (arith, h, c.requires.members)) in
+    subst (λ z. (j : Join) × (join_at c.args.joins.now m (slice_index z m) ≡ Some j)) (sym c.deref.ensures.value) (tied.join, tied.there)
 
 pub returns-clause-tight : goal.returns-clause-tight
 returns-clause-tight c =
