@@ -1,16 +1,16 @@
 -- The pairs of all members, each over the chain of a join: they are tight.
-use Rattle.std.proofs.Common.{arith, ◌≡◌, ℕ, ◌+◌, ◌*◌, ◌<◌, ◌≤◌, ◌==◌, refl, sym, ap, ◌∙◌, subst, Bool, true, false, cond, inl, inr, ltb, eqb, eq-eqb, Option, List, length}
+use Rattle.std.proofs.Common.{arith, ◌≡◌, ℕ, ◌+◌, ◌<◌, ◌≤◌, ◌==◌, refl, sym, ap, ◌∙◌, subst, Bool, true, false, cond, inl, inr, ltb, eqb, eq-eqb, Option, List, length}
 use Rattle.std.specs.Prelude.{slice_index}
 use Rattle.std.proofs.Math.Path.{subst₂}
 use Rattle.std.proofs.lemmas.Bool.{cases_eq, cases_Bool, cond-true, cond-false, ne_eqb}
-use Rattle.dpl_laminar.specs.Families.{Sets, IsFamily, load_of, total_of}
+use Rattle.dpl_laminar.specs.Families.{Sets, IsFamily, load_of}
 use Rattle.dpl_laminar.specs.Loads.{differ}
 use Rattle.dpl_laminar.specs.Pairings.{IsPairing, pairs_sum}
 use Rattle.dpl_laminar.proofs.Duality.{sum_by_pairs}
 use Rattle.dpl_laminar.proofs.Sums.{sum_same, sum_at}
 use Rattle.dpl_dual.specs.declared.crosses.Cross.{Cross}
 use Rattle.dpl_dual.specs.declared.crosses.Dual.{Dual}
-use Rattle.dpl_dual.specs.Chains.{Leads, length_of}
+use Rattle.dpl_dual.specs.Chains.{Leads}
 use Rattle.dpl_tree.specs.Stages.{IsRest}
 use Rattle.dpl_tree.specs.steps.Growth.{IsRestBy}
 use Rattle.dpl_tree.specs.steps.Parted.{LeavesOnce, IsDone}

@@ -1,11 +1,10 @@
-use Rattle.std.proofs.Common.{arith, ◌≡◌, ◌<◌, Some, length, subst, sym}
+use Rattle.std.proofs.Common.{arith, ◌≡◌, Some, length, subst, sym}
 use Rattle.std.specs.Prelude.{slice_index}
 use Rattle.std.proofs.Math.Path.{subst₂}
 use Rattle.dpl_laminar.specs.Pairings.{IsPairing}
 use Rattle.dpl_laminar.specs.Storing.{sets_of}
 use Rattle.dpl_tree.specs.Views.{mate_in}
 use Rattle.dpl_tree.specs.steps.Parted.{IsDone}
-use Rattle.dpl_pack.specs.Floods.{AreTight}
 use Rattle.dpl_flood.specs.declared.nodes.Join.{Join}
 use Rattle.dpl_flood.specs.Flips.{ArePairsJoined}
 use Rattle.dpl_flood.specs.Joins.{AreJoins, dist_in, join_at}

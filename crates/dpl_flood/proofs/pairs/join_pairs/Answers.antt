@@ -1,4 +1,4 @@
-use Rattle.std.proofs.Common.{arith, ◌<◌, ◌≤◌, ◌+◌, length, List, Bool, subst, sym}
+use Rattle.std.proofs.Common.{arith, ◌<◌, ◌+◌, length, List, Bool, subst, sym}
 use Rattle.std.specs.Prelude.{slice_index}
 use Rattle.dpl_flood.specs.Flips.{ArePairsJoined}
 use Rattle.dpl_flood.specs.Joins.{dist_in}
