@@ -4,6 +4,8 @@ mod ArenaLemmas
 mod JoinLemmas
 mod NotedLemmas
 mod ChainedLemmas
+mod HolderLemmas
+mod PairLemmas
 mod StepLemmas
 pub mod DueLemmas
 pub mod ShoreLemmas

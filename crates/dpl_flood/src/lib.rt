@@ -19,6 +19,7 @@ mod coming;
 mod event;
 mod flipping;
 mod held;
+mod holders;
 mod joins;
 mod laws;
 mod looks;
@@ -44,6 +45,7 @@ pub use coming::next;
 pub use event::{Crossing, Event};
 pub use flipping::flip_join;
 pub use held::Held;
+pub use holders::held_faces;
 pub use joins::{Joins, joins_are_far, joins_stay};
 pub use laws::{
     events_keep_seas, keys_tell_events, names_keep_time, stacks_tell_falls, states_keep_keys,
@@ -51,7 +53,7 @@ pub use laws::{
 };
 pub use looks::{look_around, look_set, look_top, look_way};
 pub use nodes::{Join, Last, Node};
-pub use pairs::join_pairs;
+pub use pairs::{join_all, join_pairs};
 pub use passing::advance;
 pub use queue::Queue;
 pub use relabelling::{cease, grow, rouse};
