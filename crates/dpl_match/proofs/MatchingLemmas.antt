@@ -1,14 +1,14 @@
 -- The steps of trees, by the distances of a metric: what they ask for of a matching, and what they make of it.
-use Rattle.std.proofs.Common.{arith, ◌≡◌, ◌≢◌, ℕ, ◌+◌, ◌*◌, ◌<◌, ◌≤◌, sym, ap, ◌∙◌, subst, Option, List, length, get_or}
+use Rattle.std.proofs.Common.{arith, ◌≡◌, ℕ, ◌<◌, sym, ap, ◌∙◌, subst, Option, List, length, get_or}
 use Rattle.dpl_laminar.specs.Families.{Sets}
 use Rattle.dpl_laminar.specs.Storing.{sets_of}
 use Rattle.dpl_tree.specs.declared.matching.Matching.{Matching}
 use Rattle.dpl_tree.specs.declared.tree.Tree.{Tree}
 use Rattle.dpl_tree.specs.Mates.{loads, totals}
 use Rattle.dpl_tree.specs.Metrics.{Table, IsMetric, dist_of}
-use Rattle.dpl_tree.specs.Stages.{IsRest, IsStage, IsCovered, Advances, Ends, Widens}
-use Rattle.dpl_tree.specs.Views.{forest_of, mate_in, place_in, IsSized}
-use Rattle.dpl_tree.specs.steps.Forests.{Place, Forest, IsPair, IsExposed}
+use Rattle.dpl_tree.specs.Stages.{IsRest, IsStage, Advances, Ends, Widens}
+use Rattle.dpl_tree.specs.Views.{forest_of, place_in, IsSized}
+use Rattle.dpl_tree.specs.steps.Forests.{Place, Forest, IsPair}
 use Rattle.dpl_tree.specs.steps.Growth.{AreListed, IsGrowing, IsNext, IsRestBy, IsStageBy, AreTightBy, IsNextBy}
 use Rattle.dpl_tree.specs.steps.Parted.{IsDone}
 

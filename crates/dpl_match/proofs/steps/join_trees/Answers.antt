@@ -1,4 +1,4 @@
-use Rattle.std.proofs.Common.{arith, refl, sym, ap, ◌∙◌, length}
+use Rattle.std.proofs.Common.{refl, sym, ap, ◌∙◌, length}
 use Rattle.dpl_list.proofs.Lists.{refilled}
 use Rattle.dpl_tree.specs.Metrics.{dist_of}
 use Rattle.dpl_match.proofs.MatchingLemmas.{tight_by, pair_by, sized_by, ends_by}
