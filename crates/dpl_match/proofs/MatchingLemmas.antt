@@ -1,14 +1,14 @@
 -- The steps of trees, by the distances of a metric: what they ask for of a matching, and what they make of it.
-use Rattle.std.proofs.Common.{arith, ◌≡◌, ◌≢◌, ℕ, ◌+◌, ◌*◌, ◌<◌, ◌≤◌, sym, ap, ◌∙◌, subst, Option, List, length, get_or}
+use Rattle.std.proofs.Common.{arith, ◌≡◌, ℕ, ◌<◌, sym, ap, ◌∙◌, subst, Option, List, length, get_or}
 use Rattle.dpl_laminar.specs.Families.{Sets}
 use Rattle.dpl_laminar.specs.Storing.{sets_of}
 use Rattle.dpl_tree.specs.declared.matching.Matching.{Matching}
 use Rattle.dpl_tree.specs.declared.tree.Tree.{Tree}
 use Rattle.dpl_tree.specs.Mates.{loads, totals}
 use Rattle.dpl_tree.specs.Metrics.{Table, IsMetric, dist_of}
-use Rattle.dpl_tree.specs.Stages.{IsRest, IsStage, IsCovered, Advances, Ends, Widens}
-use Rattle.dpl_tree.specs.Views.{forest_of, mate_in, place_in, IsSized}
-use Rattle.dpl_tree.specs.steps.Forests.{Place, Forest, IsPair, IsExposed}
+use Rattle.dpl_tree.specs.Stages.{IsRest, IsStage, Advances, Ends, Widens}
+use Rattle.dpl_tree.specs.Views.{forest_of, place_in, IsSized}
+use Rattle.dpl_tree.specs.steps.Forests.{Place, Forest, IsPair}
 use Rattle.dpl_tree.specs.steps.Growth.{AreListed, IsGrowing, IsNext, IsRestBy, IsStageBy, AreTightBy, IsNextBy}
 use Rattle.dpl_tree.specs.steps.Parted.{IsDone}
 
@@ -35,9 +35,9 @@ tight_by {metric} {m} {t} {read} {a} {b} me g e tight = record {
 }
 
 -- the pairs between the tops likewise
-pub rest_by : {metric : Table} {f : Sets} {mate : ℕ → Option ℕ} → IsMetric metric.size (dist_of metric)
+pub rest_by : {f : Sets} {mate : ℕ → Option ℕ} (metric : Table) → IsMetric metric.size (dist_of metric)
     → IsRest metric.size f (dist_of metric) mate → IsRestBy f mate (dist_of metric)
-rest_by {metric} {f} {mate} me r = record {
+rest_by {f} {mate} metric me r = record {
   symmetric = λ a b ha hb. me.symmetric a b (omega (arith, ha, r.size)) (omega (arith, hb, r.size));
   rest = subst (λ (z : ℕ). IsRest z f (dist_of metric) mate) (sym r.size) r;
 }
@@ -89,10 +89,10 @@ listed_by {metric} {m} {next} size l w count same =
     }
 
 -- trees end by the distances of a metric
-pub ends_by : {n : ℕ} {f : Sets} {dist : ℕ → ℕ → ℕ} {t grown : Tree} {read mates made back : List (Option ℕ)} {one two : ℕ} → f.size ≡ n
+pub ends_by : {n : ℕ} {f : Sets} {dist : ℕ → ℕ → ℕ} {read mates made back : List (Option ℕ)} {one two : ℕ} (t grown : Tree) → f.size ≡ n
     → read ≡ mates → back ≡ made → Ends f.size dist f one two (forest_of t read) (forest_of grown made)
     → Ends n dist f one two (forest_of t mates) (forest_of grown back)
-ends_by {n} {f} {dist} {t} {grown} {read} {mates} {made} {back} {one} {two} size er eb e =
+ends_by {n} {f} {dist} {read} {mates} {made} {back} {one} {two} t grown size er eb e =
     let e1 : Ends f.size dist f one two (forest_of t mates) (forest_of grown made) =
     subst (λ (z : List (Option ℕ)). Ends f.size dist f one two (forest_of t z) (forest_of grown made)) er e in
     let e2 : Ends f.size dist f one two (forest_of t mates) (forest_of grown back) =

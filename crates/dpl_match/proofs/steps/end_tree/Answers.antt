@@ -1,4 +1,4 @@
-use Rattle.std.proofs.Common.{arith, refl, sym, ap, subst, ◌∙◌, ℕ, Option, List, length}
+use Rattle.std.proofs.Common.{refl, sym, ap, subst, ◌∙◌, ℕ, Option, List, length}
 use Rattle.dpl_list.proofs.Lists.{refilled}
 use Rattle.dpl_laminar.specs.Families.{Sets}
 use Rattle.dpl_laminar.specs.Storing.{sets_of}
@@ -33,7 +33,7 @@ returns c =
     let count = c.end_tree.auto.mates ∙ ap length e in
     let back = refilled _ c.end_tree.new.mates mates.items mates.ok.0 count in
     record {
-      ends = λ one eo. ends_by size e back (c.end_tree.ensures.ends (dist_of c.args.metric.now) one
+      ends = λ one eo. ends_by c.args.tree.now c.end_tree.new.tree size e back (c.end_tree.ensures.ends (dist_of c.args.metric.now) one
           (tight_by c.size-size.ensures.table.metric q.growing e q.tight) eo);
       lists = record {
         mates_count = ap length back ∙ count ∙ q.growing.lists.mates_count;

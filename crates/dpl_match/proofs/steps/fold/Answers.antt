@@ -1,4 +1,4 @@
-use Rattle.std.proofs.Common.{arith, refl, sym, ap, subst, ◌∙◌, ℕ, Option, List, length}
+use Rattle.std.proofs.Common.{refl, sym, ap, subst, ◌∙◌, ℕ, length}
 use Rattle.dpl_list.proofs.Lists.{refilled}
 use Rattle.dpl_laminar.specs.Families.{Sets}
 use Rattle.dpl_laminar.specs.Storing.{sets_of}

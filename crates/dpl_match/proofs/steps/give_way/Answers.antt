@@ -1,8 +1,6 @@
-use Rattle.std.proofs.Common.{arith, refl, sym, ap, subst, ◌∙◌, ℕ, Option, List, length}
+use Rattle.std.proofs.Common.{arith, refl, sym, ap, ◌∙◌, length}
 use Rattle.dpl_list.proofs.Lists.{refilled}
 use Rattle.dpl_tree.specs.Metrics.{dist_of}
-use Rattle.dpl_tree.specs.Stages.{AreRanked}
-use Rattle.dpl_tree.specs.Views.{forest_of}
 use Rattle.dpl_match.proofs.MatchingLemmas.{stage_by, sized_by, next_by, listed_by}
 use Rattle.dpl_match.proofs.steps.give_way.Goals as goal
 

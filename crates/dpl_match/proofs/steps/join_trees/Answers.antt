@@ -1,4 +1,4 @@
-use Rattle.std.proofs.Common.{arith, refl, sym, ap, ◌∙◌, length}
+use Rattle.std.proofs.Common.{refl, sym, ap, ◌∙◌, length}
 use Rattle.dpl_list.proofs.Lists.{refilled}
 use Rattle.dpl_tree.specs.Metrics.{dist_of}
 use Rattle.dpl_match.proofs.MatchingLemmas.{tight_by, pair_by, sized_by, ends_by}
@@ -26,7 +26,7 @@ returns c =
     let count = c.join_trees.auto.mates ∙ ap length e in
     let back = refilled _ c.join_trees.new.mates mates.items mates.ok.0 count in
     record {
-      ends = λ one two eo et. ends_by size e back (c.join_trees.ensures.ends (dist_of c.args.metric.now) one two
+      ends = λ one two eo et. ends_by c.args.tree.now c.join_trees.new.tree size e back (c.join_trees.ensures.ends (dist_of c.args.metric.now) one two
           (tight_by c.size-size.ensures.table.metric q.growing e q.tight) eo et);
       lists = record {
         mates_count = ap length back ∙ count ∙ q.growing.lists.mates_count;

@@ -13,7 +13,7 @@ pair_inside-requires c =
     let f : Sets = sets_of c.args.family.now in
     record {
       mates = q.mates ∙ sym q.rest.size;
-      rest = (dist_of c.args.metric.now, rest_by c.size-size.ensures.table.metric q.rest);
+      rest = (dist_of c.args.metric.now, rest_by c.args.metric.now c.size-size.ensures.table.metric q.rest);
       covered = λ k h. subst (λ (z : ℕ). IsCovered z f (mate_in c.args.mates.now) k) (sym q.rest.size) (q.covered k (omega (arith, h, q.rest.size)));
     }
 
@@ -22,5 +22,5 @@ returns-in-Ok c =
     let q = c.requires in
     record {
       count = c.in-Ok.ensures.count ∙ q.rest.size;
-      done = done_by q.rest.size (c.in-Ok.ensures.done (dist_of c.args.metric.now) (rest_by c.size-size.ensures.table.metric q.rest));
+      done = done_by q.rest.size (c.in-Ok.ensures.done (dist_of c.args.metric.now) (rest_by c.args.metric.now c.size-size.ensures.table.metric q.rest));
     }
