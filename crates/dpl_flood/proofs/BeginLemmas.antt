@@ -185,6 +185,7 @@ begun d x faces old ground seats is singles family placed places stacks members 
       state = record {
         ground = ground;
         sized = record {
+          seats = sym (size ∙ ap length (sym is));
           faces = placed.places ∙ places;
           stacks = omega (arith, ap length (placed.stacks ∙ stacks), length-replicate {A = List ℕ} (2 * n) [], size);
           labels = roots.sized.labels;
@@ -198,7 +199,7 @@ begun d x faces old ground seats is singles family placed places stacks members 
           order = λ k hk. subst (IsPile (λ g. depth_above f k (s.point g))) (sym (bare k)) tt;
           no_seat = λ k t hk ht. ap (λ z. has z (get_or x.seats t 0)) (bare k);
           once = λ k j g hk hj y _. absurd (true≢false (sym y ∙ ap (λ z. has z g) (bare k)));
-          all = λ g t far e. inl (here.others g t far e).1.0;
+          all = λ g t far e. inl (here.others g t far e).1;
         };
         chains = placed.chains d.crosses;
         ends = λ g a e. let o = placed.only g a e in let there = placed.there a o.0 in (there.inside, there.face ∙ sym o.1);

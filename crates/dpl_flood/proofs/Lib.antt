@@ -36,3 +36,5 @@ mod ComeLemmas
 mod LabelLemmas
 mod BeginLemmas
 mod TurnLemmas
+pub mod SweepLemmas
+mod TopLemmas

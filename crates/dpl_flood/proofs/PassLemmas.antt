@@ -31,6 +31,7 @@ passed_stands d x y t v keys st k late none p small out o =
       record {
         ground = st.ground;
         sized = record {
+          seats = ap length o.seats ∙ st.sized.seats ∙ sym size;
           faces = ap (λ h. length h.nodes) o.held ∙ st.sized.faces;
           stacks = ap (λ h. length h.stacks) o.held ∙ st.sized.stacks ∙ ap (λ z. 2 * z) (sym size);
           labels = ap (λ z. length z.labels.items) o.tree ∙ st.sized.labels ∙ ap (λ z. 2 * z) (sym size);

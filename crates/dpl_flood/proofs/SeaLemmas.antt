@@ -360,7 +360,7 @@ flood_passed d terminals x t v way_key top_key s due late none p =
     }
 
 -- nothing but values and the time changes
-moving_passed : (x : Sea) (t : ℕ) (v : ℕ → ℕ) → AreMoving x → AreMoving (advanced x t v)
+pub moving_passed : (x : Sea) (t : ℕ) (v : ℕ → ℕ) → AreMoving x → AreMoving (advanced x t v)
 moving_passed x t v m = record { once = m.once; tops = m.tops; still = m.still }
 
 -- Time passes, and the state stands.

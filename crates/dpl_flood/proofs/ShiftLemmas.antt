@@ -37,7 +37,7 @@ longer_stands d x nodes st p chains =
     let e = longer_sea d x nodes st p in
     record {
       ground = st.ground;
-      sized = record { faces = st.sized.faces; stacks = st.sized.stacks; labels = st.sized.labels; rests = st.sized.rests; inners = st.sized.inners };
+      sized = record { seats = st.sized.seats; faces = st.sized.faces; stacks = st.sized.stacks; labels = st.sized.labels; rests = st.sized.rests; inners = st.sized.inners };
       sea = subst (IsSea d x.seats) (sym e) st.sea;
       early = st.early;
       held = subst (λ s. AreHeldBy x.seats s (stack_of x.held)) (sym e) st.held;
@@ -69,6 +69,7 @@ taken_stands d x nodes h t far a st p chains there takes =
       record {
         ground = st.ground;
         sized = record {
+          seats = st.sized.seats;
           faces = length-set x.held.nodes h (Some a) ∙ st.sized.faces;
           stacks = length-set x.held.stacks set (h ∷ stack_of x.held set) ∙ st.sized.stacks;
           labels = st.sized.labels;
@@ -144,6 +145,7 @@ left_stands d x set h t far rest st hs is leaves =
       record {
         ground = st.ground;
         sized = record {
+          seats = st.sized.seats;
           faces = length-set x.held.nodes h None ∙ st.sized.faces;
           stacks = length-set x.held.stacks set rest ∙ st.sized.stacks;
           labels = st.sized.labels;

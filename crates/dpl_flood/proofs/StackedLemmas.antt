@@ -74,7 +74,7 @@ top_due d terminals s stack k key sea held hk top t =
       | inl none ↦ record {
         value = t.none none;
         faces = λ g u far e q. other g u far e q (t.none none) (elim (held.all g u far e) [
-          | inl z ↦ inl z
+          | inl z ↦ inl z.0
           | inr j ↦ inr (j.0, ((λ z. true≢false (sym j.1.1.1 ∙ ap (λ i. has (stack i) g) z ∙ ap (λ xs. has xs g) none)), (j.1.0, (j.1.1.0, j.1.1.1))))
         ]);
       }
@@ -99,7 +99,7 @@ top_due d terminals s stack k key sea held hk top t =
                 let inn : inner_of f (f.top u) u ≡ inner_of f k u = ap (λ z. inner_of f z u) q in
                 let vv : f.value (f.top u) ≡ f.value k = ap f.value q in
                 elim (held.all g u far e) [
-                  | inl z ↦ other g u far e q most (inl z)
+                  | inl z ↦ other g u far e q most (inl z.0)
                   | inr j ↦ elim (cases_eq j.0 k) [
                     | inr ne ↦ other g u far e q most (inr (j.0, (ne, (j.1.0, (j.1.1.0, j.1.1.1)))))
                     | inl same ↦ elim (cases_has h g rest (sym (ap (λ xs. has xs g) is) ∙ ap (λ i. has (stack i) g) (sym same) ∙ j.1.1.1)) [

@@ -15,3 +15,4 @@ pub mod Forested
 pub mod StateLaws
 pub mod Events
 pub mod Starts
+pub mod Sweeps

@@ -216,7 +216,7 @@ pub record AreHeldBy (terminals : List ℕ) (s : Sea) (stack : ℕ → List ℕ)
   pub order : (k : ℕ) → k < 2 * s.sets.size → IsPile (λ g. depth_above s.sets k (s.point g)) (stack k)
   pub no_seat : (k t : ℕ) → k < 2 * s.sets.size → t < s.sets.size → has (stack k) (slice_index terminals t) ≡ false
   pub once : (k j g : ℕ) → k < 2 * s.sets.size → j < 2 * s.sets.size → has (stack k) g ≡ true → has (stack j) g ≡ true → k ≡ j
-  pub all : (g t far : ℕ) → s.point g ≡ on t far → (far ≡ 0) ⊎ ((k : ℕ) × ((k < 2 * s.sets.size) × ((s.sets.holds k t ≡ true) ×
+  pub all : (g t far : ℕ) → s.point g ≡ on t far → ((far ≡ 0) × (g ≡ slice_index terminals t)) ⊎ ((k : ℕ) × ((k < 2 * s.sets.size) × ((s.sets.holds k t ≡ true) ×
       (has (stack k) g ≡ true))))
 
 -- the stacks with one face more, or with others for one set

@@ -1,5 +1,6 @@
 -- The state of moats that grow, and the keys of ways and sets.
-use Rattle.std.specs.Prelude.{◌≡◌, ◌≢◌, ℕ, ◌+◌, ◌*◌, ◌%◌, ◌^◌, ◌<◌, ◌≤◌, ◌==◌, ◌⊎◌, if◌then◌else◌, false, Some, List, ◌∷◌, length, slice_index, slice_index_or, All}
+use Rattle.std.specs.Prelude.{true, ◌≡◌, ◌≢◌, ℕ, ◌+◌, ◌*◌, ◌%◌, ◌^◌, ◌<◌, ◌≤◌, ◌==◌, ◌⊎◌, if◌then◌else◌, false, Some, List, ◌∷◌, length, slice_index, slice_index_or, All}
+use Rattle.dpl_laminar.specs.Families.{has}
 use Rattle.dpl_laminar.specs.Storing.{sets_of}
 use Rattle.dpl_dual.specs.declared.crosses.Dual.{Dual}
 use Rattle.dpl_dual.specs.Chains.{IsAt}
@@ -37,6 +38,7 @@ pub record IsGround (d : Dual) : Type 0 where
 
 -- the lists have a place for each face, each set and each member
 pub record IsSized (d : Dual) (x : State) : Type 0 where
+  pub seats : length x.seats ≡ (sets_of x.family).size
   pub faces : length x.held.nodes ≡ d.faces
   pub stacks : length x.held.stacks ≡ 2 * (sets_of x.family).size
   pub labels : length x.tree.labels.items ≡ 2 * (sets_of x.family).size
@@ -122,3 +124,17 @@ pub record AreKeyed (d : Dual) (s : Sea) (steps : List Step) (i : ℕ) (old new 
   pub sizes : length new ≡ length old
   pub done : (j : ℕ) → j < i → slice_index new (way_in steps j) ≡ due_of d s never (way_in steps j)
   pub others : (p : ℕ) → ((j : ℕ) → j < i → way_in steps j ≢ p) → slice_index new p ≡ slice_index old p
+
+-- The keys of the ways from these faces are what is due there. Each other key is as it was, or what is due too.
+pub record AreKeyedFor (d : Dual) (s : Sea) (faces : ℕ → Type 0) (old new : List ℕ) : Type 0 where
+  pub sizes : length new ≡ length old
+  pub at : (g w : ℕ) → faces g → IsWayFrom d g w → slice_index new w ≡ due_of d s never w
+  pub others : (p : ℕ) → (slice_index new p ≡ slice_index old p) ⊎ ((p < length d.crosses) × (slice_index new p ≡ due_of d s never p))
+
+-- the seats of the first members, as far as these have a top
+abbrev pub SeatsOn : Sea → List ℕ → ℕ → ℕ → ℕ → Type 0
+SeatsOn s seats top count g = (t : ℕ) × ((t < count) × ((s.sets.top t ≡ top) × (slice_index seats t ≡ g)))
+
+-- the faces on the stacks of the first sets, as far as these stand on a top
+abbrev pub StacksOn : Sea → (ℕ → List ℕ) → ℕ → ℕ → ℕ → Type 0
+StacksOn s stack top count g = (k : ℕ) × ((k < count) × ((has (stack k) g ≡ true) × (place_of s.sets (s.point g) ≡ top)))

@@ -1,6 +1,6 @@
 //! Which chain holds each face, and which faces each set took.
 
-ghost use Rattle.std.specs.Prelude.{◌≡◌, ◌<◌, ℕ, List, ◌∷◌, [], None, Some, IfOk, OnOk, OnErr, MatchOption, length, replicate, slice_index_or, slice_set};
+ghost use Rattle.std.specs.Prelude.{◌≡◌, ◌<◌, ℕ, List, ◌∷◌, [], None, Some, IfOk, OnOk, OnErr, MatchOption, length, replicate, reverse, slice_index_or, slice_set};
 ghost use Rattle.dpl_flood.specs.Holdings.{node_of, stack_of, seated, pushed, popped};
 
 use std::alloc::{AllocError, Global};
@@ -44,6 +44,13 @@ impl Stack {
         ensures { MatchOption result ((self.old ≡ []) × (self.new ≡ [])) (λ h. self.old ≡ h ∷ self.new) }
     {
         self.faces.pop()
+    }
+
+    /// All faces, the first one first.
+    fn faces(&self) -> &[u32]
+        ensures { reverse result.now ≡ self.now }
+    {
+        self.faces.as_slice()
     }
 
     /// The last face.
@@ -132,6 +139,14 @@ impl Held {
             (λ h. (rest : List ℕ) × (stack_of self.now set ≡ h ∷ rest)) }
     {
         self.stacks[set as usize].last()
+    }
+
+    /// The faces that a set took, the first one first.
+    pub fn faces(&self, set: u32) -> &[u32]
+        requires { set < length self.now.stacks }
+        ensures { reverse result.now ≡ stack_of self.now set }
+    {
+        self.stacks[set as usize].faces()
     }
 
     /// A seat is held by a chain, and stands on no stack.

@@ -33,6 +33,7 @@ mod shifting;
 mod shores;
 mod standing;
 mod state;
+mod sweeping;
 #[cfg(test)]
 mod tests;
 mod turning;
@@ -62,5 +63,6 @@ pub use shores::{leave, take};
 pub use standing::{Standing, due};
 pub use state::State;
 pub use std::alloc::AllocError as NoMemory;
+pub use sweeping::{come, sweep};
 pub use turning::{enter, thaw};
 pub use ways::{Step, steps_at};

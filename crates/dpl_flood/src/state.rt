@@ -1,6 +1,7 @@
 //! What moats are at one moment, as a program keeps them.
 
-ghost use Rattle.std.specs.Prelude.{◌≡◌, ◌<◌, ◌*◌, ◌==◌, true, false, length, slice_index, slice_index_or};
+ghost use Rattle.std.specs.Prelude.{ℕ, ◌≡◌, ◌<◌, ◌*◌, ◌==◌, true, false, length, slice_index, slice_index_or};
+ghost use Rattle.dpl_laminar.specs.Families.{has};
 ghost use Rattle.dpl_laminar.specs.Storing.{sets_of};
 ghost use Rattle.dpl_dual.specs.declared.crosses.Dual.{Dual};
 ghost use Rattle.dpl_tree.specs.declared.tree.Label.TheVariants.{Free};
@@ -105,6 +106,20 @@ impl State {
     {
         match self.standing(face) {
             Some(standing) => standing.top == top,
+            None => false,
+        }
+    }
+
+    /// Whether the faces that a set took stand on a top.
+    pub fn is_stack_on(&self, set: u32, top: u32) -> bool
+        requires state { (d : Dual) × IsState d self.now }
+        requires set { set < 2 * (sets_of self.now.family).size }
+        requires top { top < 2 * (sets_of self.now.family).size }
+        ensures { (g : ℕ) → has (stack_of self.now.held set) g ≡ true →
+            result ≡ (place_of (sets_of self.now.family) ((sea_of self.now).point g) == top) }
+    {
+        match self.held.last(set) {
+            Some(face) => self.is_on(face, top),
             None => false,
         }
     }

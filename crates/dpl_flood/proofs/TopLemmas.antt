@@ -1,0 +1,173 @@
+-- Keys around all faces of a top while they are set anew.
+use Rattle.std.proofs.Common.{arith, ◌≡◌, ℕ, ◌+◌, ◌*◌, ◌<◌, ◌⊎◌, refl, sym, ap, ◌∙◌, ◌-◌, suc, subst, inl, inr, true, List, [], ◌∷◌, length, get_or}
+use Rattle.std.specs.Prelude.{reverse, All}
+use Rattle.std.proofs.lemmas.Bool.{cases_eq, cases_lt, true≢false}
+use Rattle.std.proofs.lemmas.List.{get_or-reverse, length-reverse, get_or_default}
+use Rattle.dpl_laminar.proofs.Numbers.{has_tail, has_at}
+use Rattle.dpl_pack.proofs.PointLemmas.{on_water}
+use Rattle.dpl_laminar.specs.Families.{has}
+use Rattle.dpl_laminar.specs.Storing.{sets_of}
+use Rattle.dpl_dual.specs.declared.crosses.Dual.{Dual}
+use Rattle.dpl_pack.specs.Tides.{place_of}
+use Rattle.dpl_flood.specs.declared.state.State.{State}
+use Rattle.dpl_flood.specs.Holdings.{stack_of}
+use Rattle.dpl_flood.specs.Seas.{Sea}
+use Rattle.dpl_flood.specs.States.{sea_of, IsState, IsWayFrom, AreKeyedAround, AreKeyedOn, AreKeyedFor, SeatsOn, StacksOn}
+use Rattle.dpl_flood.proofs.LookLemmas.{around_either}
+use Rattle.dpl_flood.proofs.ShoreLemmas.{cases_point}
+
+-- no face is looked at
+pub for_none : (d : Dual) (s : Sea) (faces : ℕ → Type 0) (old : List ℕ) → ((g : ℕ) → faces g → ⊥) → AreKeyedFor d s faces old old
+for_none d s faces old none = record {
+  sizes = refl;
+  at = λ g w f. absurd (none g f);
+  others = λ p. inl refl;
+}
+
+-- one face more
+pub for_around : (d : Dual) (s : Sea) (less more : ℕ → Type 0) (f : ℕ) (old between new : List ℕ) → AreKeyedFor d s less old between
+    → AreKeyedAround d s f between new → ((g : ℕ) → more g → less g ⊎ (g ≡ f)) → AreKeyedFor d s more old new
+for_around d s less more f old between new k around parts = record {
+  sizes = around.sizes ∙ k.sizes;
+  at = λ g w m from. elim (parts g m) [
+    | inr e ↦ around.at w (subst (λ z. IsWayFrom d z w) e from)
+    | inl l ↦ elim (around_either d s f between new around w) [
+      | inl same ↦ same ∙ k.at g w l from
+      | inr due ↦ due.1
+    ]
+  ];
+  others = λ p. elim (around_either d s f between new around p) [
+    | inr due ↦ inr (due.0.inside, due.1)
+    | inl same ↦ elim (k.others p) [
+      | inl e ↦ inl (same ∙ e)
+      | inr due ↦ inr (due.0, same ∙ due.1)
+    ]
+  ];
+}
+
+-- more faces
+pub for_more : (d : Dual) (s : Sea) (one two all : ℕ → Type 0) (old between new : List ℕ) → AreKeyedFor d s one old between
+    → AreKeyedFor d s two between new → ((g : ℕ) → all g → one g ⊎ two g) → AreKeyedFor d s all old new
+for_more d s one two all old between new a b parts = record {
+  sizes = b.sizes ∙ a.sizes;
+  at = λ g w m from. elim (parts g m) [
+    | inr y ↦ b.at g w y from
+    | inl y ↦ elim (b.others w) [
+      | inl same ↦ same ∙ a.at g w y from
+      | inr due ↦ due.1
+    ]
+  ];
+  others = λ p. elim (b.others p) [
+    | inr due ↦ inr due
+    | inl same ↦ elim (a.others p) [
+      | inl e ↦ inl (same ∙ e)
+      | inr due ↦ inr (due.0, same ∙ due.1)
+    ]
+  ];
+}
+
+-- fewer faces
+pub for_fewer : (d : Dual) (s : Sea) (more less : ℕ → Type 0) (old new : List ℕ) → AreKeyedFor d s more old new
+    → ((g : ℕ) → less g → more g) → AreKeyedFor d s less old new
+for_fewer d s more less old new k part = record {
+  sizes = k.sizes;
+  at = λ g w m. k.at g w (part g m);
+  others = k.others;
+}
+
+-- The faces that one set took stand on one top.
+pub stack_together : (d : Dual) (x : State) (k g h : ℕ) → IsState d x → k < 2 * (sets_of x.family).size → has (stack_of x.held k) g ≡ true
+    → has (stack_of x.held k) h ≡ true → place_of (sets_of x.family) ((sea_of x).point g) ≡ place_of (sets_of x.family) ((sea_of x).point h)
+stack_together d x k g h st hk yg yh =
+    let f = sets_of x.family in
+    let a = st.held.each k g hk yg in
+    let b = st.held.each k h hk yh in
+    ap (place_of f) a.at
+    ∙ st.sea.family.laminar.tops.top_shared k a.member b.member hk (st.sea.flood.members g a.member a.far a.at)
+    (st.sea.flood.members h b.member b.far b.at) a.holds b.holds
+    ∙ sym (ap (place_of f) b.at)
+
+-- Each face of a top is the seat of one of its members, or one that a set of it took.
+pub on_top : (d : Dual) (x : State) (top g : ℕ) → IsState d x → top < 2 * (sets_of x.family).size
+    → place_of (sets_of x.family) ((sea_of x).point g) ≡ top
+    → SeatsOn (sea_of x) x.seats top (sets_of x.family).size g ⊎ StacksOn (sea_of x) (stack_of x.held) top (2 * (sets_of x.family).size) g
+on_top d x top g st ht e =
+    let s = sea_of x in
+    elim (cases_point (s.point g)) [
+      | inl a ↦ absurd (omega (arith, ht, e, ap (place_of s.sets) a))
+      | inr a ↦
+          let hm = st.sea.flood.members g a.0 a.1.0 a.1.1 in
+          elim (st.held.all g a.0 a.1.0 a.1.1) [
+            | inl q ↦ inl (a.0, (hm, (sym (ap (place_of s.sets) a.1.1) ∙ e, sym q.1)))
+            | inr q ↦ inr (q.0, (q.1.0, (q.1.1.1, e)))
+          ]
+    ]
+
+-- All faces of a top are looked at.
+pub all_on : (d : Dual) (x : State) (top : ℕ) (old between new : List ℕ) → IsState d x → top < 2 * (sets_of x.family).size
+    → AreKeyedFor d (sea_of x) (SeatsOn (sea_of x) x.seats top (sets_of x.family).size) old between
+    → AreKeyedFor d (sea_of x) (StacksOn (sea_of x) (stack_of x.held) top (2 * (sets_of x.family).size)) between new
+    → AreKeyedOn d (sea_of x) top d.faces old new
+all_on d x top old between new st ht a b =
+    let k = for_more d (sea_of x) (SeatsOn (sea_of x) x.seats top (sets_of x.family).size)
+    (StacksOn (sea_of x) (stack_of x.held) top (2 * (sets_of x.family).size))
+    (λ g. place_of (sets_of x.family) ((sea_of x).point g) ≡ top) old between new a b (λ g. on_top d x top g st ht) in
+    record { sizes = k.sizes; at = λ g w _ is from. k.at g w is from; others = k.others }
+
+-- ---- the faces of a stack, the first one first
+
+-- the place of a number in a list that has it
+find_at : (xs : List ℕ) (g : ℕ) → has xs g ≡ true → (k : ℕ) × ((k < length xs) × (get_or xs k 0 ≡ g))
+find_at [] g y = absurd (true≢false (sym y))
+find_at (x ∷ xs) g y = elim (cases_eq x g) [
+  | inl e ↦ (0, (omega arith, e))
+  | inr ne ↦ let r = find_at xs g (sym (has_tail x g xs ne) ∙ y) in (suc r.0, (omega (arith, r.1.0), r.1.1))
+]
+
+pub has_reversed : (xs : List ℕ) (i : ℕ) → i < length xs → has (reverse xs) (get_or xs i 0) ≡ true
+has_reversed xs i h =
+    let k = length xs - 1 - i in
+    let low : k < length xs = omega (arith, h) in
+    let same : length xs - 1 - k ≡ i = omega (arith, h) in
+    subst (λ z. has (reverse xs) z ≡ true) (get_or-reverse xs k 0 low ∙ ap (λ z. get_or xs z 0) same) (has_at (reverse xs) k (omega (arith, low, length-reverse xs)))
+
+pub find_reversed : (xs : List ℕ) (g : ℕ) → has (reverse xs) g ≡ true → (k : ℕ) × ((k < length xs) × (get_or xs k 0 ≡ g))
+find_reversed xs g y =
+    let r = find_at (reverse xs) g y in
+    let low : r.0 < length xs = omega (arith, r.1.0, length-reverse xs) in
+    (length xs - 1 - r.0, (omega (arith, low), sym (get_or-reverse xs r.0 0 low) ∙ r.1.1))
+
+-- The faces that a set took are faces.
+pub faces_inside : (d : Dual) (x : State) (k : ℕ) (xs : List ℕ) → IsState d x → k < 2 * (sets_of x.family).size
+    → reverse xs ≡ stack_of x.held k → All (λ g. g < d.faces) xs
+faces_inside d x k xs st hk e i dflt h =
+    let y : has (stack_of x.held k) (get_or xs i 0) ≡ true = ap (λ z. has z (get_or xs i 0)) (sym e) ∙ has_reversed xs i h in
+    let on = st.held.each k (get_or xs i 0) hk y in
+    omega (arith, get_or_default xs i dflt 0 h, (st.sea.flood.home (get_or xs i 0) (λ w. on_water on.member on.far (sym on.at ∙ w))).0)
+
+-- one more of these faces
+pub one_face_more : (xs : List ℕ) (i g : ℕ) → (j : ℕ) × ((j < i + 1) × (get_or xs j 0 ≡ g)) → ((j : ℕ) × ((j < i) × (get_or xs j 0 ≡ g))) ⊎ (g ≡ get_or xs i 0)
+one_face_more xs i g m = elim (cases_lt m.0 i) [
+  | inl l ↦ inl (m.0, (l, m.1.1))
+  | inr h ↦ inr (sym m.1.1 ∙ ap (λ z. get_or xs z 0) (let e : m.0 ≡ i = omega (arith, h, m.1.0) in e))
+]
+
+-- one seat more, if its member has the top
+pub one_seat_more : (s : Sea) (seats : List ℕ) (top i g : ℕ) → SeatsOn s seats top (i + 1) g
+    → SeatsOn s seats top i g ⊎ ((s.sets.top i ≡ top) × (g ≡ get_or seats i 0))
+one_seat_more s seats top i g m = elim (cases_lt m.0 i) [
+  | inl l ↦ inl (m.0, (l, m.1.1))
+  | inr h ↦
+      let e : m.0 ≡ i = omega (arith, h, m.1.0) in
+      inr (sym (ap s.sets.top e) ∙ m.1.1.0, sym m.1.1.1 ∙ ap (λ z. get_or seats z 0) e)
+]
+
+-- one stack more, if it stands on the top
+pub one_stack_more : (s : Sea) (stack : ℕ → List ℕ) (top i g : ℕ) → StacksOn s stack top (i + 1) g
+    → StacksOn s stack top i g ⊎ ((has (stack i) g ≡ true) × (place_of s.sets (s.point g) ≡ top))
+one_stack_more s stack top i g m = elim (cases_lt m.0 i) [
+  | inl l ↦ inl (m.0, (l, m.1.1))
+  | inr h ↦
+      let e : m.0 ≡ i = omega (arith, h, m.1.0) in
+      inr (sym (ap (λ z. has (stack z) g) e) ∙ m.1.1.0, m.1.1.1)
+]
