@@ -14,7 +14,10 @@ use Rattle.dpl_dual.specs.Duals.{way_at}
 use Rattle.dpl_tree.specs.Views.{place_in}
 use Rattle.dpl_pack.specs.Points.{Point, water, on, total_at}
 use Rattle.dpl_pack.specs.Tides.{place_of, with_values}
+use Rattle.dpl_flood.specs.declared.nodes.Node.{Node}
 use Rattle.dpl_flood.specs.declared.state.State.{State}
+use Rattle.dpl_flood.specs.Arenas.{IsLonger}
+use Rattle.dpl_flood.specs.Forested.{IsForested, IsSameForest}
 use Rattle.dpl_flood.specs.Dues.{NoneRests}
 use Rattle.dpl_flood.specs.declared.event.Crossing.{Crossing}
 use Rattle.dpl_flood.specs.declared.event.Event.{Event}
@@ -27,6 +30,7 @@ use Rattle.dpl_flood.specs.Seas.{Sea, tide_of, IsSea, IsSeaDue, AreLate, ArePass
 use Rattle.dpl_flood.specs.StateLaws.{ArePassedOver}
 use Rattle.dpl_flood.specs.States.{sea_of, fall_of, IsState, IsTaken, IsLeft, AreKeys, top_keys}
 use Rattle.dpl_flood.specs.Sweeps.{AreTwo, IsSwept, IsSweeping, IsOfTrees}
+use Rattle.dpl_flood.proofs.ArenaLemmas.{longer_refl, longer_trans}
 use Rattle.dpl_flood.proofs.ClockLemmas.{first_late}
 use Rattle.dpl_flood.proofs.ComeLemmas.{due_way, due_set}
 use Rattle.dpl_flood.proofs.MeasureLemmas.{due_time_passed, take_falls, leave_falls}
@@ -189,15 +193,29 @@ first_early d x keys key st k none two first =
 
 -- ---- what stays
 
+-- no node was added
+longer_same : (old new : List Node) → new ≡ old → IsLonger old new
+longer_same old new e = subst (IsLonger old) (sym e) (longer_refl old)
+
+forest_none : (x : State) → IsSameForest x x
+forest_none x = record { seats = refl; tree = refl; mates = refl; joins = refl; arena = longer_same x.arena x.arena refl }
+
+forest_more : (x y z : State) → IsSameForest x y → IsSameForest y z → IsSameForest x z
+forest_more x y z a b = record {
+  seats = b.seats ∙ a.seats;
+  tree = b.tree ∙ a.tree;
+  mates = b.mates ∙ a.mates;
+  joins = b.joins ∙ a.joins;
+  arena = longer_trans x.arena y.arena z.arena a.arena b.arena;
+}
+
 -- Nothing has happened yet.
 pub swept_none : (x : State) → IsSwept x x
 swept_none x = record {
   later = omega arith;
   sets = refl;
-  gain = λ k. refl;
-  loss = λ k. refl;
+  same = forest_none x;
   awake = λ k e. e;
-  seats = refl;
   names = λ a n. n;
 }
 
@@ -206,10 +224,8 @@ pub swept_more : (x y z : State) → IsSwept x y → IsSwept y z → IsSwept x z
 swept_more x y z a b = record {
   later = omega (arith, a.later, b.later);
   sets = b.sets ∙ ap (λ (q : Sets). with_values q (sets_of z.family).value) a.sets;
-  gain = λ k. b.gain k ∙ a.gain k;
-  loss = λ k. b.loss k ∙ a.loss k;
+  same = forest_more x y z a.same b.same;
   awake = λ k e. b.awake k (a.awake k e);
-  seats = b.seats ∙ a.seats;
   names = λ m n. b.names m (a.names m n);
 }
 
@@ -222,7 +238,7 @@ two_swept d x y w two = record {
   two_named = w.names two.two two.two_named;
   differ = λ e. two.differ (sym (ap (λ (q : Sets). q.top two.one) w.sets) ∙ e ∙ ap (λ (q : Sets). q.top two.two) w.sets);
   chain = two.chain;
-  leads = subst (λ q. Leads d.crosses (slice_index q two.one) two.chain (slice_index q two.two)) (sym w.seats) two.leads;
+  leads = subst (λ q. Leads d.crosses (slice_index q two.one) two.chain (slice_index q two.two)) (sym w.same.seats) two.leads;
   short = two.short;
 }
 
@@ -232,10 +248,8 @@ pub swept_passed : (d : Dual) (x y : State) (t : ℕ) (v : ℕ → ℕ) → IsSt
 swept_passed d x y t v st p o = record {
   later = omega (arith, p.later, ap (λ (z : Sea). z.time) o.sea);
   sets = ap (λ (z : Sea). z.sets) o.sea ∙ ap (λ q. with_values (sets_of x.family) q) (sym (ap (λ (z : Sea). z.sets.value) o.sea));
-  gain = λ k. ap (λ (z : Sea). z.gain k) o.sea;
-  loss = λ k. ap (λ (z : Sea). z.loss k) o.sea;
+  same = record { seats = o.seats; tree = o.tree; mates = o.mates; joins = o.joins; arena = longer_same x.arena y.arena o.arena };
   awake = λ k e. ap (λ (z : Sea). z.rests k) o.sea ∙ e;
-  seats = o.seats;
   names = λ a n. subst (λ z. IsNamed z a) (sym o.sea) (named_passed d x.seats (sea_of x) t v a st.sea p n);
 }
 
@@ -250,35 +264,31 @@ faces_stay d x y points tops rates =
     same (on m far) = ap (λ z. cond {A = ℕ} (z == 1) 2 0) (rates (y.sets.top m) ∙ ap x.loss (tops m))
 
 -- what rested wakes
-pub swept_thawed : (x y : State) → IsRelabelled x y → y.labels ≡ x.labels → ((k : ℕ) → slice_index_or y.rests.items k false ≡ false) → IsSwept x y
-swept_thawed x y r labels awake = record {
+pub swept_thawed : (x y : State) → IsRelabelled x y → y.tree ≡ x.tree → ((k : ℕ) → slice_index_or y.rests.items k false ≡ false) → IsSwept x y
+swept_thawed x y r tree awake = record {
   later = omega (arith, r.time);
   sets = ap sets_of r.family ∙ ap (λ z. with_values (sets_of x.family) (sets_of z).value) (sym r.family);
-  gain = λ k. ap (λ z. gains_in (place_in z.items) k) labels;
-  loss = λ k. ap (λ z. losses_in (place_in z.items) k) labels;
+  same = record { seats = r.seats; tree = tree; mates = r.mates; joins = r.joins; arena = longer_same x.arena y.arena r.arena };
   awake = λ k _. awake k;
-  seats = r.seats;
   names = λ a n. record {
     member = omega (arith, n.member, ap (λ z. (sets_of z).size) r.family);
-    grows = ap (λ z. gains_in (place_in z.items) ((sets_of y.family).top a)) labels ∙ ap (λ z. (sea_of x).gain ((sets_of z).top a)) r.family ∙ n.grows;
+    grows = ap (λ z. gains_in (place_in z.labels.items) ((sets_of y.family).top a)) tree ∙ ap (λ z. (sea_of x).gain ((sets_of z).top a)) r.family ∙ n.grows;
     whole = ap (λ z. total_at (sets_of z) a) r.family ∙ n.whole ∙ sym r.time;
   };
 }
 
-pub faces_thawed : (d : Dual) (x y : State) → IsRelabelled x y → y.labels ≡ x.labels → faces_left d (sea_of y) ≡ faces_left d (sea_of x)
-faces_thawed d x y r labels = faces_stay d (sea_of x) (sea_of y)
+pub faces_thawed : (d : Dual) (x y : State) → IsRelabelled x y → y.tree ≡ x.tree → faces_left d (sea_of y) ≡ faces_left d (sea_of x)
+faces_thawed d x y r tree = faces_stay d (sea_of x) (sea_of y)
     (λ g. ap (λ z. point_of z y.held g) r.arena ∙ ap (λ z. point_of x.arena z g) r.held)
-    (λ t. ap (λ z. (sets_of z).top t) r.family) (λ k. ap (λ z. losses_in (place_in z.items) k) labels)
+    (λ t. ap (λ z. (sets_of z).top t) r.family) (λ k. ap (λ z. losses_in (place_in z.labels.items) k) tree)
 
 -- a face is taken or left
-pub swept_noted : (x y : State) (h : ℕ) (p : Point) → sea_of y ≡ noted_at (sea_of x) h p → y.seats ≡ x.seats → IsSwept x y
-swept_noted x y h p e seats = record {
+pub swept_noted : (x y : State) (h : ℕ) (p : Point) → sea_of y ≡ noted_at (sea_of x) h p → IsSameForest x y → IsSwept x y
+swept_noted x y h p e same = record {
   later = omega (arith, ap (λ (z : Sea). z.time) e);
   sets = ap (λ (z : Sea). z.sets) e ∙ ap (λ q. with_values (sets_of x.family) q) (sym (ap (λ (z : Sea). z.sets.value) e));
-  gain = λ k. ap (λ (z : Sea). z.gain k) e;
-  loss = λ k. ap (λ (z : Sea). z.loss k) e;
+  same = same;
   awake = λ k q. ap (λ (z : Sea). z.rests k) e ∙ q;
-  seats = seats;
   names = λ a n. subst (λ z. IsNamed z a) (sym e) (named_shifted (sea_of x) h p a n);
 }
 
@@ -363,11 +373,11 @@ fewer_early d x y n old new eo en less same = omega (
 
 -- ---- faces are taken and left
 
-pub swept_taken : (d : Dual) (x y : State) (face : ℕ) → IsTaken d x y face → IsSwept x y
-swept_taken d x y face t = swept_noted x y face (on t.member t.far) t.sea t.seats
+pub swept_taken : (d : Dual) (x y : State) (face : ℕ) → IsTaken d x y face → IsSameForest x y → IsSwept x y
+swept_taken d x y face t same = swept_noted x y face (on t.member t.far) t.sea same
 
-pub swept_left : (x y : State) (set face : ℕ) → IsLeft x y set face → IsSwept x y
-swept_left x y set face l = swept_noted x y face water l.sea l.seats
+pub swept_left : (x y : State) (set face : ℕ) → IsLeft x y set face → IsSameForest x y → IsSwept x y
+swept_left x y set face l same = swept_noted x y face water l.sea same
 
 pub taken_fewer : (d : Dual) (x y : State) (face : ℕ) → IsState d x → IsTaken d x y face → faces_left d (sea_of y) < faces_left d (sea_of x)
 taken_fewer d x y face st t = omega (arith, ap (faces_left d) t.sea, take_falls d x.seats (sea_of x) face t.member t.far st.sea t.takes)
@@ -386,13 +396,14 @@ left_fewer d x y set face st k l =
 
 -- one event more
 pub sweeping_more : (d : Dual) (x y z : State) (before after : List ℕ) → IsSweeping d x y before → IsSwept y z → IsState d z → AreKeys d z after
-    → IsSweeping d x z after
-sweeping_more d x y z before after i w st k = record {
+    → (IsForested d y → IsForested d z) → IsSweeping d x z after
+sweeping_more d x y z before after i w st k forest = record {
   state = st;
   keys = k;
   some = omega (arith, i.some, i.keys.places, k.places, ap (λ (q : Sets). q.size) w.sets);
   two = two_swept d y z w i.two;
   swept = swept_more x y z i.swept w;
+  forest = λ f. forest (i.forest f);
 }
 
 -- what is neither taken nor left is an event of trees

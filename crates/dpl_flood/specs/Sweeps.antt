@@ -9,6 +9,7 @@ use Rattle.dpl_flood.specs.declared.event.Event.{Event}
 use Rattle.dpl_flood.specs.declared.event.Event.TheVariants.{Take, Grow, Meet, Leave, GiveWay}
 use Rattle.dpl_flood.specs.declared.state.State.{State}
 use Rattle.dpl_flood.specs.Events.{due_in}
+use Rattle.dpl_flood.specs.Forested.{IsForested, IsSameForest}
 use Rattle.dpl_flood.specs.Queues.{IsFirst}
 use Rattle.dpl_flood.specs.Dues.{NoneRests}
 use Rattle.dpl_flood.specs.Seas.{IsNamed, early_keys, faces_left, tide_of}
@@ -25,14 +26,12 @@ pub record AreTwo (d : Dual) (x : State) : Type 0 where
   pub leads : Leads d.crosses (slice_index x.seats one) chain (slice_index x.seats two)
   pub short : length_of chain ≤ 2 ^ 51
 
--- No tree has changed: sets have other values at most, tops move as they did, and what rests did so before.
+-- No tree has changed: sets have other values at most, and what rests did so before.
 pub record IsSwept (x y : State) : Type 0 where
   pub later : x.time ≤ y.time
   pub sets : sets_of y.family ≡ with_values (sets_of x.family) (sets_of y.family).value
-  pub gain : (k : ℕ) → (sea_of y).gain k ≡ (sea_of x).gain k
-  pub loss : (k : ℕ) → (sea_of y).loss k ≡ (sea_of x).loss k
+  pub same : IsSameForest x y
   pub awake : (k : ℕ) → slice_index_or x.rests.items k false ≡ false → slice_index_or y.rests.items k false ≡ false
-  pub seats : y.seats ≡ x.seats
   pub names : (a : ℕ) → IsNamed (sea_of x) a → IsNamed (sea_of y) a
 
 -- no key is up
@@ -65,6 +64,7 @@ pub record IsAwaiting (d : Dual) (x : State) (many : ℕ) (y : State) (queue : L
   pub awake : NoneRests (tide_of d (sea_of y))
   pub quiet : IsQuiet y queue
   pub swept : IsSwept x y
+  pub forest : IsForested d x → IsForested d y
   pub faces : faces_left d (sea_of y) ≡ faces_left d (sea_of x)
 
 -- no tree has changed
@@ -74,3 +74,4 @@ pub record IsSweeping (d : Dual) (x : State) (y : State) (queue : List ℕ) : Ty
   pub some : 0 < length queue
   pub two : AreTwo d y
   pub swept : IsSwept x y
+  pub forest : IsForested d x → IsForested d y

@@ -3,7 +3,7 @@
 ghost use Rattle.std.specs.Prelude.{◌≡◌, ℕ, OnOk, OnErr};
 ghost use Rattle.dpl_dual.specs.declared.crosses.Dual.{Dual};
 ghost use Rattle.dpl_flood.specs.Events.{HasCome, Reaches, Shrinks};
-ghost use Rattle.dpl_flood.specs.Forested.{IsForested};
+ghost use Rattle.dpl_flood.specs.Forested.{IsForested, IsSameForest};
 ghost use Rattle.dpl_flood.specs.States.{IsState, AreKeys, IsTaken, IsLeft, sea_of};
 ghost use Rattle.dpl_flood.specs.Steps.{step_rows};
 
@@ -31,6 +31,7 @@ pub fn reach(
     requires reaches { Reaches dual.now state.old ahead }
     ensures ok { OnOk result (IsTaken dual.now state.old state.new ahead.to) }
     ensures err { OnErr result (sea_of state.new ≡ sea_of state.old) }
+    ensures same { IsSameForest state.old state.new }
     ensures state { IsState dual.now state.new }
     ensures forest { IsForested dual.now state.old → IsForested dual.now state.new }
     ensures keys { AreKeys dual.now state.new queue.new }
@@ -47,6 +48,7 @@ pub fn retreat(state: &mut State, dual: &Dual, steps: &Grouped<Step>, queue: &mu
     requires steps { steps.now ≡ step_rows dual.now.crosses dual.now.faces }
     requires shrinks { Shrinks state.old set }
     ensures left { (face : ℕ) × IsLeft state.old state.new set face }
+    ensures same { IsSameForest state.old state.new }
     ensures state { IsState dual.now state.new }
     ensures forest { IsForested dual.now state.old → IsForested dual.now state.new }
     ensures keys { AreKeys dual.now state.new queue.new }

@@ -3,6 +3,7 @@
 ghost use Rattle.std.specs.Prelude.{◌≡◌, ◌≢◌, ℕ, ◌+◌, ◌<◌, ◌≤◌, false, length, slice_index, slice_index_or, IfOk, IfSome, MatchOption};
 ghost use Rattle.dpl_flood.specs.Dues.{NoneRests};
 ghost use Rattle.dpl_flood.specs.Events.{HasCome, due_in};
+ghost use Rattle.dpl_flood.specs.Forested.{IsForested};
 ghost use Rattle.dpl_flood.specs.Queues.{IsFirst};
 ghost use Rattle.dpl_flood.specs.Seas.{early_keys, faces_left, tide_of};
 ghost use Rattle.dpl_flood.specs.States.{IsState, AreKeys, sea_of};
@@ -62,6 +63,7 @@ fn next_later<L: Ledger>(
     ensures swept { IsSwept state.old state.new }
     ensures faces { faces_left dual.now (sea_of state.new) ≡ faces_left dual.now (sea_of state.old) }
     ensures state { IsState dual.now state.new }
+    ensures forest { IsForested dual.now state.old → IsForested dual.now state.new }
     ensures keys { AreKeys dual.now state.new queue.new }
     ensures places { length queue.new ≡ length queue.old }
 {
@@ -91,6 +93,7 @@ pub fn come<L: Ledger>(
     ensures swept { IsSwept state.old state.new }
     ensures faces { faces_left dual.now (sea_of state.new) ≡ faces_left dual.now (sea_of state.old) }
     ensures state { IsState dual.now state.new }
+    ensures forest { IsForested dual.now state.old → IsForested dual.now state.new }
     ensures keys { AreKeys dual.now state.new queue.new }
     ensures places { length queue.new ≡ length queue.old }
 {
@@ -123,6 +126,7 @@ pub fn sweep<L: Ledger>(
     ensures trees { IfOk result IsOfTrees }
     ensures swept { IfOk result (λ _. IsSwept state.old state.new) }
     ensures state { IsState dual.now state.new }
+    ensures forest { IsForested dual.now state.old → IsForested dual.now state.new }
     ensures keys { AreKeys dual.now state.new queue.new }
 {
     'faces: loop {

@@ -47,5 +47,6 @@ times-preserved g c =
       awake = λ k. t.swept.awake k (i.awake k);
       quiet = c.in-None.ensures.come;
       swept = swept_more c.args.state.now x y i.swept t.swept;
+      forest = λ f. c.advance.ensures.forest (i.forest f);
       faces = t.faces ∙ i.faces;
     }

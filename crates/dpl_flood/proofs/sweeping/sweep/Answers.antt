@@ -13,8 +13,8 @@ pub faces-preserved-in-Continue-1 : goal.faces-preserved-in-Continue-1
 faces-preserved-in-Continue-1 g c =
     sweeping_more c.args.dual.now c.args.state.now c.faces.state c.reach.new.state c.faces.queue c.reach.new.queue c.faces.invariant
     (swept_more c.faces.state c.come-event.new.state c.reach.new.state c.come-event.ensures.swept
-    (swept_taken c.args.dual.now c.come-event.new.state c.reach.new.state c.in-Take.ahead.to c.in_ok-reach-in-Take.ensures.ok))
-    c.reach.ensures.state c.reach.ensures.keys
+    (swept_taken c.args.dual.now c.come-event.new.state c.reach.new.state c.in-Take.ahead.to c.in_ok-reach-in-Take.ensures.ok c.reach.ensures.same))
+    c.reach.ensures.state c.reach.ensures.keys (λ f. c.reach.ensures.forest (c.come-event.ensures.forest f))
 
 pub faces-smaller : goal.faces-smaller
 faces-smaller g c = omega (
@@ -28,8 +28,8 @@ pub faces-preserved : goal.faces-preserved
 faces-preserved g c =
     sweeping_more c.args.dual.now c.args.state.now c.faces.state c.retreat.new.state c.faces.queue c.retreat.new.queue c.faces.invariant
     (swept_more c.faces.state c.come-event.new.state c.retreat.new.state c.come-event.ensures.swept
-    (swept_left c.come-event.new.state c.retreat.new.state c.in-Leave.set c.retreat.ensures.left.0 c.retreat.ensures.left.1))
-    c.retreat.ensures.state c.retreat.ensures.keys
+    (swept_left c.come-event.new.state c.retreat.new.state c.in-Leave.set c.retreat.ensures.left.0 c.retreat.ensures.left.1 c.retreat.ensures.same))
+    c.retreat.ensures.state c.retreat.ensures.keys (λ f. c.retreat.ensures.forest (c.come-event.ensures.forest f))
 
 pub returns-in_default : goal.returns-in_default
 returns-in_default g c = record {
@@ -37,5 +37,6 @@ returns-in_default g c = record {
   trees = of_trees c.come-event.result c.in_default.not-Take c.in_default.not-Leave;
   swept = swept_more c.args.state.now c.faces.state c.come-event.new.state c.faces.invariant.swept c.come-event.ensures.swept;
   state = c.come-event.ensures.state;
+  forest = λ f. c.come-event.ensures.forest (c.faces.invariant.forest f);
   keys = c.come-event.ensures.keys;
 }
