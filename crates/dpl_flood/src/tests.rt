@@ -4,10 +4,7 @@ ghost use Rattle.std.specs.Prelude.{◌≡◌, ◌<◌, IfOk, length};
 ghost use Rattle.dpl_flood.specs.Starts.{AreSeats};
 ghost use Rattle.dpl_flood.specs.States.{IsGround};
 
-use crate::{
-    Arena, Held, Join, Joins, NoMemory, Queue, State, chains_stay, first_keys, flip_join,
-    held_faces, steps_at,
-};
+use crate::{Arena, Held, Join, NoMemory, Queue, State, first_keys, steps_at};
 use dpl_dual::{Cross, Dual, Rows};
 use dpl_list::{Grouped, Items};
 use std::alloc::Global;
@@ -20,17 +17,6 @@ fn way(f: u32, g: u32, length: u64) -> Cross
         g,
         edge: 0,
         length,
-    }
-}
-
-fn edge_way(f: u32, g: u32, edge: u32) -> Cross
-    ensures { (result.f ≡ f) × (result.g ≡ g) × (result.edge ≡ edge) × (result.length ≡ 2) }
-{
-    Cross {
-        f,
-        g,
-        edge,
-        length: 2,
     }
 }
 
@@ -121,76 +107,6 @@ fn a_join_has_the_ways_between_its_seats(rt: HostRuntime) -> Result<(), NoMemory
     Ok(())
 }
 
-/// The ways of the joins that two members have from both ends, where a second one was noted in place of the first.
-fn noted_ways(alloc: Global) -> Result<(Option<Join>, Option<Join>, Option<Join>), NoMemory> {
-    let mut arena = Arena::new(alloc, 2)?;
-    let (one, two) = (arena.seat(0)?, arena.seat(1)?);
-    let mut joins = Joins::new(alloc);
-    chains_stay();
-    joins.note(
-        arena.nodes(),
-        Join {
-            first: one,
-            way: 0,
-            second: two,
-        },
-    )?;
-    joins.note(
-        arena.nodes(),
-        Join {
-            first: two,
-            way: 1,
-            second: one,
-        },
-    )?;
-    Ok((joins.find(0, 1), joins.find(1, 0), joins.find(0, 2)))
-}
-
-#[test]
-fn joins_are_found_from_both_ends(rt: HostRuntime) -> Result<(), NoMemory> {
-    let (there, back, none) = noted_ways(rt.alloc())?;
-    assert_eq!(rt;
-        there.map(|join: Join| (join.first, join.way, join.second)),
-        Some((0, 1, 1))
-    );
-    assert_eq!(rt;
-        back.map(|join: Join| (join.first, join.way, join.second)),
-        Some((1, 1, 0))
-    );
-    assert!(rt; none.is_none());
-    Ok(())
-}
-
-/// Which of three edges in a row are joined, after the chain over all of them and that over the last two were.
-fn joined_edges(alloc: Global) -> Result<(bool, bool, bool), NoMemory> {
-    let ways = [edge_way(0, 1, 0), edge_way(1, 2, 1), edge_way(2, 3, 2)];
-    let mut arena = Arena::new(alloc, 4)?;
-    let (one, two, three) = (arena.seat(0)?, arena.seat(3)?, arena.seat(1)?);
-    let first = arena.onward(&ways, one, 0, 1)?;
-    let second = arena.onward(&ways, two, 2, 2)?;
-    let mut joined = [false, false, false];
-    let whole = Join {
-        first,
-        way: 1,
-        second,
-    };
-    flip_join(alloc, &ways, &arena, whole, &mut joined)?;
-    let part = Join {
-        first: second,
-        way: 1,
-        second: three,
-    };
-    flip_join(alloc, &ways, &arena, part, &mut joined)?;
-    Ok((joined[0], joined[1], joined[2]))
-}
-
-#[test]
-fn edges_on_two_chains_are_not_joined(rt: HostRuntime) -> Result<(), NoMemory> {
-    let joined = joined_edges(rt.alloc())?;
-    assert_eq!(rt; joined, (true, false, false));
-    Ok(())
-}
-
 /// A row of four faces, the first and the last of them odd, with ways of these lengths between neighbours.
 fn row_of_faces(alloc: Global) -> Result<Dual, NoMemory>
     ensures ground { IfOk result IsGround }
@@ -253,24 +169,5 @@ fn key_at_first(alloc: Global) -> Result<(u64, usize), NoMemory> {
 fn seats_tell_the_first_keys(rt: HostRuntime) -> Result<(), NoMemory> {
     let keys = key_at_first(rt.alloc())?;
     assert_eq!(rt; keys, (2, 7));
-    Ok(())
-}
-
-/// The faces that are held at the beginning in a row of four, each with its member.
-fn held_at_first(alloc: Global) -> Result<Vec<(u32, u32)>, NoMemory> {
-    let dual = row_of_faces(alloc)?;
-    let state = State::start(alloc, &dual, dual.odd.as_slice())?;
-    let mut found = Vec::new(alloc);
-    for held in &held_faces(alloc, &dual, &state)? {
-        found.push((held.face, held.member))?;
-    }
-    Ok(found)
-}
-
-#[test]
-fn seats_alone_are_held_at_first(rt: HostRuntime) -> Result<(), NoMemory> {
-    let found = held_at_first(rt.alloc())?;
-    let wanted: &[(u32, u32)] = &[(0, 0), (3, 1)];
-    assert_eq!(rt; found.as_slice(), wanted);
     Ok(())
 }
