@@ -132,6 +132,7 @@ relabelled_stands d x y r st sea =
     record {
       ground = st.ground;
       sized = record {
+        seats = ap length r.seats ∙ st.sized.seats ∙ ap (λ z. (sets_of z).size) (sym r.family);
         faces = ap (λ h. length h.nodes) r.held ∙ st.sized.faces;
         stacks = ap (λ h. length h.stacks) r.held ∙ st.sized.stacks ∙ size;
         labels = r.labels ∙ st.sized.labels ∙ size;

@@ -264,15 +264,15 @@ faces_stay d x y points tops rates =
     same (on m far) = ap (λ z. cond {A = ℕ} (z == 1) 2 0) (rates (y.sets.top m) ∙ ap x.loss (tops m))
 
 -- what rested wakes
-pub swept_thawed : (x y : State) → IsRelabelled x y → y.tree ≡ x.tree → ((k : ℕ) → slice_index_or y.rests.items k false ≡ false) → IsSwept x y
-swept_thawed x y r tree awake = record {
+pub swept_thawed : (x y : State) → IsRelabelled x y → IsSameForest x y → ((k : ℕ) → slice_index_or y.rests.items k false ≡ false) → IsSwept x y
+swept_thawed x y r same awake = record {
   later = omega (arith, r.time);
   sets = ap sets_of r.family ∙ ap (λ z. with_values (sets_of x.family) (sets_of z).value) (sym r.family);
-  same = record { seats = r.seats; tree = tree; mates = r.mates; joins = r.joins; arena = longer_same x.arena y.arena r.arena };
+  same = same;
   awake = λ k _. awake k;
   names = λ a n. record {
     member = omega (arith, n.member, ap (λ z. (sets_of z).size) r.family);
-    grows = ap (λ z. gains_in (place_in z.labels.items) ((sets_of y.family).top a)) tree ∙ ap (λ z. (sea_of x).gain ((sets_of z).top a)) r.family ∙ n.grows;
+    grows = ap (λ z. gains_in (place_in z.labels.items) ((sets_of y.family).top a)) same.tree ∙ ap (λ z. (sea_of x).gain ((sets_of z).top a)) r.family ∙ n.grows;
     whole = ap (λ z. total_at (sets_of z) a) r.family ∙ n.whole ∙ sym r.time;
   };
 }

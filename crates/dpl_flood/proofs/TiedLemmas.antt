@@ -83,7 +83,7 @@ far_is_even d nodes joins f a b ground chains are e =
 state_joined : (d : Dual) (x : State) (joins : Entries) → IsState d x → IsState d (record x { joins = joins })
 state_joined d x joins st = record {
   ground = st.ground;
-  sized = record { faces = st.sized.faces; stacks = st.sized.stacks; labels = st.sized.labels; rests = st.sized.rests; inners = st.sized.inners };
+  sized = record { seats = st.sized.seats; faces = st.sized.faces; stacks = st.sized.stacks; labels = st.sized.labels; rests = st.sized.rests; inners = st.sized.inners };
   sea = st.sea;
   early = st.early;
   held = st.held;
