@@ -1,37 +1,35 @@
 -- Trees over the tops of moats, while time passes and faces come and go.
-use Rattle.std.proofs.Common.{arith, ◌≡◌, ◌≢◌, ℕ, ◌+◌, ◌-◌, ◌*◌, ◌%◌, ◌<◌, ◌≤◌, refl, sym, ap, ◌∙◌, subst, inl, inr, true, false, cond, Bool, Some, None, Option, List, length, get_or}
-use Rattle.std.proofs.lemmas.Bool.{cases_eq, true≢false}
+use Rattle.std.proofs.Common.{arith, ◌≡◌, ℕ, ◌+◌, ◌-◌, ◌*◌, ◌%◌, ◌<◌, ◌≤◌, refl, sym, ap, ◌∙◌, subst, inl, inr, true, false, cond, Bool, Some, None, Option, List, length, get_or}
+use Rattle.std.proofs.lemmas.Bool.{true≢false}
 use Rattle.std.proofs.lemmas.Option.{none-some}
 use Rattle.std.specs.Option.{option_map_or}
-use Rattle.dpl_laminar.specs.Families.{Sets, IsFamily, load_of}
-use Rattle.dpl_laminar.specs.Changes.{IsSingles}
+use Rattle.dpl_laminar.specs.Families.{Sets, load_of}
 use Rattle.dpl_laminar.specs.Pairings.{AreWithin}
 use Rattle.dpl_laminar.proofs.Sums.{sum_same, sum_zero}
 use Rattle.dpl_dual.specs.declared.crosses.Dual.{Dual}
 use Rattle.dpl_dual.specs.declared.crosses.Cross.{Cross}
-use Rattle.dpl_dual.specs.Chains.{Leads, length_of}
-use Rattle.dpl_pack.specs.Points.{Point, total_at}
+use Rattle.dpl_dual.specs.Chains.{Leads}
+use Rattle.dpl_pack.specs.Points.{Point}
 use Rattle.dpl_pack.specs.Floods.{IsFlood}
 use Rattle.dpl_pack.specs.Tides.{with_values}
 use Rattle.dpl_pack.proofs.FloodLemmas.{flood_within}
 use Rattle.dpl_tree.specs.declared.tree.Tree.{Tree}
-use Rattle.dpl_tree.specs.Mates.{loads, totals}
-use Rattle.dpl_tree.specs.Stages.{IsRest, IsStage, IsReady}
-use Rattle.dpl_tree.specs.steps.Forests.{Forest, free, outer, gain, drop_of}
+use Rattle.dpl_tree.specs.Mates.{totals}
+use Rattle.dpl_tree.specs.Stages.{IsRest, IsReady}
+use Rattle.dpl_tree.specs.steps.Forests.{Forest, outer, gain}
 use Rattle.dpl_tree.specs.steps.Growth.{AreRoots}
 use Rattle.dpl_tree.specs.Views.{forest_of, mate_in}
 use Rattle.dpl_tree.proofs.Rooting.{roots_stage}
 use Rattle.dpl_flood.specs.declared.nodes.Node.{Node}
 use Rattle.dpl_flood.specs.declared.nodes.Join.{Join}
-use Rattle.dpl_flood.specs.Arenas.{AreNodes, IsLonger, join_chain, join_length, seat_of, start_of}
+use Rattle.dpl_flood.specs.Arenas.{AreNodes, join_chain, join_length, seat_of, start_of}
 use Rattle.dpl_flood.specs.Forested.{NamesTree, AreTrees}
-use Rattle.dpl_flood.specs.Joins.{Entries, AreJoins, HaveSeats, IsTied, dist_in, join_at}
+use Rattle.dpl_flood.specs.Joins.{Entries, AreJoins, HaveSeats, dist_in, join_at}
 use Rattle.dpl_flood.specs.Rates.{AreRated}
-use Rattle.dpl_flood.specs.Seas.{Sea, IsSea, IsStart, ArePassed, advanced, changed, noted_at, IsNamed}
+use Rattle.dpl_flood.specs.Seas.{Sea, IsSea, IsStart, ArePassed, advanced, changed, noted_at}
 use Rattle.dpl_flood.proofs.JoinLemmas.{join_leads, join_long}
 use Rattle.dpl_flood.proofs.NameLemmas.{named_passed, named_shifted}
-use Rattle.dpl_flood.proofs.NotedLemmas.{tied}
-use Rattle.dpl_flood.proofs.StageLemmas.{stage_with, stage_turned}
+use Rattle.dpl_flood.proofs.StageLemmas.{stage_turned}
 
 -- ---- distances by joins
 

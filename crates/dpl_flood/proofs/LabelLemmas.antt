@@ -1,20 +1,25 @@
 -- States whose tops stand another way in the trees.
-use Rattle.std.proofs.Common.{arith, ◌≡◌, ℕ, ◌+◌, ◌*◌, ◌<◌, refl, sym, ap, ◌∙◌, subst, inl, inr, Bool, true, false, List, length, get_or}
+use Rattle.std.proofs.Common.{arith, ◌≡◌, ℕ, ◌+◌, ◌*◌, ◌<◌, refl, sym, ap, ◌∙◌, subst, inl, inr, Bool, Option, true, false, List, length, get_or}
+use Rattle.std.proofs.Math.Path.{subst₂}
 use Rattle.std.specs.Prelude.{slice_set}
 use Rattle.std.proofs.lemmas.Bool.{cases_eq, cases_lt, true≢false}
 use Rattle.std.proofs.lemmas.List.{get_or-set_other, get_or_past, length-set}
 use Rattle.std.proofs.lemmas.Grind.{get_or-set_at}
 use Rattle.dpl_laminar.specs.Storing.{sets_of}
 use Rattle.dpl_dual.specs.declared.crosses.Dual.{Dual}
+use Rattle.dpl_tree.specs.declared.tree.Tree.{Tree}
+use Rattle.dpl_tree.specs.steps.Forests as forests
 use Rattle.dpl_tree.specs.declared.tree.Label.{Label}
-use Rattle.dpl_tree.specs.declared.tree.Label.TheVariants.{Free, Outer, Inner}
+use Rattle.dpl_tree.specs.declared.tree.Label.TheVariants.{Free}
 use Rattle.dpl_tree.specs.steps.Forests.{gain, drop_of}
-use Rattle.dpl_tree.specs.Views.{place_of, place_in}
+use Rattle.dpl_tree.specs.Views.{place_of, place_in, forest_of}
 use Rattle.dpl_flood.specs.declared.state.State.{State}
+use Rattle.dpl_pack.specs.Nests.{inner_of}
+use Rattle.dpl_flood.specs.Arenas.{AreNodes, node_at}
 use Rattle.dpl_flood.specs.Events.{IsRelabelled, MayGrow}
-use Rattle.dpl_flood.specs.Holdings.{point_of}
+use Rattle.dpl_flood.specs.Holdings.{node_of, point_of, stack_of}
 use Rattle.dpl_flood.specs.Rates.{gains_in, losses_in}
-use Rattle.dpl_flood.specs.Seas.{Sea, IsSeaDue, AreNow, AreRenewed, Grows, Ceases, changed}
+use Rattle.dpl_flood.specs.Seas.{Sea, IsSea, AreHeldBy, IsSeaDue, AreNow, AreRenewed, Grows, Ceases, changed}
 use Rattle.dpl_flood.specs.States.{sea_of, IsState, AreKeys, top_keys}
 use Rattle.dpl_flood.proofs.EventLemmas.{cease_due, event_kept}
 use Rattle.dpl_flood.proofs.SeaLemmas.{now_kept}
@@ -35,28 +40,22 @@ relabelled_sea x y r = λ z. record {
 }
 
 -- a top goes into a tree, and another one behind it
-pub grown : (d : Dual) (x : State) (i o : ℕ) (labels : List Label) (rests : List Bool) → IsState d x → MayGrow (sea_of x) i o
-    → labels ≡ slice_set (slice_set x.tree.labels.items i Inner) o Outer → rests ≡ slice_set x.rests.items o false
-    → Grows (sea_of x) i o (gains_in (place_in labels)) (losses_in (place_in labels)) (λ k. get_or rests k false)
-grown d x i o labels rests st may l r =
-    let xs = x.tree.labels.items in
-    let hi : i < length xs = omega (arith, (may.tops i (inl refl)).0, st.sized.labels) in
-    let ho : o < length xs = omega (arith, (may.tops o (inr refl)).0, st.sized.labels) in
-    let hr : o < length x.rests.items = omega (arith, (may.tops o (inr refl)).0, st.sized.rests) in
-    let first : get_or labels i Free ≡ Inner = ap (λ z. get_or z i Free) l
-    ∙ get_or-set_other (slice_set xs i Inner) o i Outer Free may.differ ∙ get_or-set_at xs i i Inner Free refl hi in
-    let second : get_or labels o Free ≡ Outer = ap (λ z. get_or z o Free) l
-    ∙ get_or-set_at (slice_set xs i Inner) o o Outer Free refl (omega (arith, ho, length-set xs i Inner)) in
+pub grown : (d : Dual) (x : State) (tree : Tree) (rests : List Bool) (s t o : ℕ) (mates : List (Option ℕ)) → IsState d x
+    → MayGrow (sea_of x) ((sets_of x.family).top t) ((sets_of x.family).top o)
+    → forests.Grows (sets_of x.family) (forest_of x.tree mates) s t o (forest_of tree mates)
+    → rests ≡ slice_set x.rests.items ((sets_of x.family).top o) false
+    → Grows (sea_of x) ((sets_of x.family).top t) ((sets_of x.family).top o) (gains_in (place_in tree.labels.items))
+    (losses_in (place_in tree.labels.items)) (λ k. get_or rests k false)
+grown d x tree rests s t o mates st may g r =
+    let f = sets_of x.family in
+    let hr : f.top o < length x.rests.items = omega (arith, (may.tops (f.top o) (inr refl)).0, st.sized.rests) in
     record {
-      falls = (ap (λ z. gain (place_of z)) first, ap (λ z. drop_of (place_of z)) first);
-      rises = (ap (λ z. gain (place_of z)) second, ap (λ z. drop_of (place_of z)) second);
-      others = λ k ni no.
-          let same : get_or labels k Free ≡ get_or xs k Free = ap (λ z. get_or z k Free) l
-          ∙ get_or-set_other (slice_set xs i Inner) o k Outer Free no ∙ get_or-set_other xs i k Inner Free ni in
-          (ap (λ z. gain (place_of z)) same, ap (λ z. drop_of (place_of z)) same);
+      falls = (ap gain g.place_inner, ap drop_of g.place_inner);
+      rises = (ap gain g.place_outer, ap drop_of g.place_outer);
+      others = λ k ni no. (ap gain (g.place_others k ni no), ap drop_of (g.place_others k ni no));
       free = may.free;
-      rest = λ k no. ap (λ z. get_or z k false) r ∙ get_or-set_other x.rests.items o k false false no;
-      awake = (may.awake, ap (λ z. get_or z o false) r ∙ get_or-set_at x.rests.items o o false false refl hr);
+      rest = λ k no. ap (λ z. get_or z k false) r ∙ get_or-set_other x.rests.items (f.top o) k false false no;
+      awake = (may.awake, ap (λ z. get_or z (f.top o) false) r ∙ get_or-set_at x.rests.items (f.top o) (f.top o) false false refl hr);
       tops = may.tops;
       pace = may.pace;
     }
@@ -110,4 +109,45 @@ ceased_keys d x y keys st r ceases k =
             | inl o ↦ inl (sym o.1.0 ∙ l, refl)
             | inr o ↦ absurd (omega (arith, l, o.1.0))
           ]));
+    }
+
+-- faces stand on the stacks of their sets whatever the tops do
+held_rated : (terminals : List ℕ) (s : Sea) (gain loss : ℕ → ℕ) (rests : ℕ → Bool) (stack : ℕ → List ℕ) → AreHeldBy terminals s stack
+    → AreHeldBy terminals (changed s s.sets gain loss rests) stack
+held_rated terminals s gain loss rests stack h = record {
+  each = λ k g hk y.
+      let o = h.each k g hk y in
+      record { member = o.member; far = o.far; at = o.at; holds = o.holds; inside = o.inside; within = o.within };
+  order = h.order;
+  no_seat = h.no_seat;
+  once = h.once;
+  all = h.all;
+}
+
+-- the same moats whose tops stand another way are a state, where they are a sea
+pub relabelled_stands : (d : Dual) (x y : State) → IsRelabelled x y → IsState d x → IsSea d x.seats (relabelled x y) → IsState d y
+relabelled_stands d x y r st sea =
+    let size : 2 * (sets_of x.family).size ≡ 2 * (sets_of y.family).size = ap (λ z. 2 * (sets_of z).size) (sym r.family) in
+    let back = sym (relabelled_sea x y r) in
+    record {
+      ground = st.ground;
+      sized = record {
+        faces = ap (λ h. length h.nodes) r.held ∙ st.sized.faces;
+        stacks = ap (λ h. length h.stacks) r.held ∙ st.sized.stacks ∙ size;
+        labels = r.labels ∙ st.sized.labels ∙ size;
+        rests = r.rests ∙ st.sized.rests ∙ size;
+        inners = ap length r.inners ∙ st.sized.inners ∙ ap (λ z. (sets_of z).size) (sym r.family);
+      };
+      sea = subst₂ (IsSea d) (sym r.seats) back sea;
+      early = omega (arith, st.early, r.time);
+      held = subst (λ h. AreHeldBy y.seats (sea_of y) (stack_of h)) (sym r.held)
+          (subst₂ (λ q z. AreHeldBy q z (stack_of x.held)) (sym r.seats) back (held_rated x.seats (sea_of x) (gains_in (place_in y.tree.labels.items))
+          (losses_in (place_in y.tree.labels.items)) (λ k. get_or y.rests.items k false) (stack_of x.held) st.held));
+      chains = subst (AreNodes d.crosses) (sym r.arena) st.chains;
+      ends = λ g a e.
+          let q = st.ends g a (sym (ap (λ h. node_of h g) r.held) ∙ e) in
+          (omega (arith, q.0, ap length r.arena), ap (λ z. (node_at z a).face) r.arena ∙ q.1);
+      inner = λ m h.
+          ap (λ z. get_or z m 0) r.inners ∙ st.inner m (omega (arith, h, ap (λ z. (sets_of z).size) r.family))
+          ∙ ap (λ z. inner_of (sets_of z) ((sets_of z).top m) m) (sym r.family);
     }

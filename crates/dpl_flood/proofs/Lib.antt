@@ -29,6 +29,8 @@ pub mod PassLemmas
 mod StageLemmas
 mod ForestLemmas
 mod TreedLemmas
+mod TiedLemmas
+mod EnterLemmas
 mod ClockLemmas
 mod ComeLemmas
 mod LabelLemmas

@@ -1,9 +1,9 @@
 -- The trees of a stage by other distances, and while values change.
-use Rattle.std.proofs.Common.{◌≡◌, ℕ, ◌*◌, ◌<◌, ◌∙◌, sym}
+use Rattle.std.proofs.Common.{◌≡◌, ℕ, ◌*◌, ◌<◌, ◌∙◌}
 use Rattle.dpl_laminar.specs.Loads.{load_in}
 use Rattle.dpl_laminar.specs.Families.{Sets, IsFamily}
 use Rattle.dpl_laminar.specs.Pairings.{AreWithin}
-use Rattle.dpl_tree.specs.steps.Forests.{Forest, IsForest, Shifts}
+use Rattle.dpl_tree.specs.steps.Forests.{Forest, Shifts}
 use Rattle.dpl_tree.specs.Mates.{IsExit, loads}
 use Rattle.dpl_tree.specs.Stages.{IsStage}
 use Rattle.dpl_tree.proofs.Loads.{shift_inside, shift_parity}

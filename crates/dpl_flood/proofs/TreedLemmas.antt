@@ -113,19 +113,17 @@ forest_unmoved d x y f st same is = forest_over d x y (sea_of x) f st same is re
 
 -- ---- what rests
 
-pub forest_woken : (d : Dual) (x y : State) → IsForested d x → IsState d y → IsRelabelled x y → y.tree ≡ x.tree
+pub forest_woken : (d : Dual) (x y : State) → IsForested d x → IsState d y → IsRelabelled x y → IsSameForest x y
     → ((k : ℕ) → get_or y.rests.items k false ≡ false) → IsForested d y
-forest_woken d x y f st r tree awake =
+forest_woken d x y f st r same awake =
     let s : Sea = changed (sea_of x) (sea_of x).sets (sea_of x).gain (sea_of x).loss (λ k. get_or y.rests.items k false) in
     let is : sea_of y ≡ s = λ z. record {
       sets = sets_of (r.family z);
       point = point_of (r.arena z) (r.held z);
-      gain = gains_in (place_in (tree z).labels.items);
-      loss = losses_in (place_in (tree z).labels.items);
+      gain = gains_in (place_in (same.tree z).labels.items);
+      loss = losses_in (place_in (same.tree z).labels.items);
       rests = λ k. get_or y.rests.items k false;
       time = r.time z;
     } in
-    forest_over d x y s f st
-    (record { seats = r.seats; tree = tree; mates = r.mates; joins = r.joins; arena = subst (IsLonger x.arena) (sym r.arena) (longer_refl x.arena) })
-    is refl
+    forest_over d x y s f st same is refl
     (trees_woken (dist_of d x) (sea_of x) (trees_of x) (λ k. get_or y.rests.items k false) (λ k e. absurd (true≢false (sym e ∙ awake k))) f.trees)

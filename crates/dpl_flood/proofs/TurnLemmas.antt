@@ -13,11 +13,13 @@ use Rattle.dpl_flood.specs.declared.state.State.{State}
 use Rattle.dpl_tree.specs.Views.{place_in}
 use Rattle.dpl_flood.specs.Dues.{IsDueAt, AreLooked}
 use Rattle.dpl_flood.specs.Events.{IsRelabelled, IsThawing}
+use Rattle.dpl_flood.specs.Forested.{IsSameForest}
 use Rattle.dpl_flood.specs.Holdings.{stack_of}
 use Rattle.dpl_flood.specs.Queues.{never}
 use Rattle.dpl_flood.specs.Rates.{gains_in, losses_in}
 use Rattle.dpl_flood.specs.Seas.{Sea, Grows, AreMoving, IsDueTime, IsEvent, IsTopTime, AreRenewed, sides_of, tide_of, due_of, span_of}
 use Rattle.dpl_flood.specs.States.{sea_of, fall_of, IsGround, IsState, IsWayFrom, AreKeys, AreKeyedAround, AreKeyedOn, top_keys}
+use Rattle.dpl_flood.proofs.ArenaLemmas.{longer_refl, longer_trans}
 use Rattle.dpl_flood.proofs.DueLemmas.{roused}
 use Rattle.dpl_flood.proofs.EventLemmas.{event_kept, grow_due}
 use Rattle.dpl_flood.proofs.FlowLemmas.{fall_later}
@@ -206,19 +208,18 @@ thaw_none d x keys sets st k many = record {
     arena = refl;
     time = refl;
     inners = refl;
-    mates = refl;
-    joins = refl;
     labels = refl;
     rests = refl;
   };
   labels = refl;
+  forest = record { seats = refl; tree = refl; mates = refl; joins = refl; arena = longer_refl x.arena };
   awake = λ k h. absurd (omega (arith, h));
 }
 
 pub thaw_more : (d : Dual) (x : State) (sets : ℕ) (y z : State) (old new : List ℕ) (i : ℕ) → IsThawing d x sets y old i → IsState d z
-    → AreKeys d z new → IsRelabelled y z → z.tree ≡ y.tree → get_or z.rests.items i false ≡ false
+    → AreKeys d z new → IsRelabelled y z → z.tree ≡ y.tree → IsSameForest y z → get_or z.rests.items i false ≡ false
     → ((k : ℕ) → k ≢ i → get_or z.rests.items k false ≡ get_or y.rests.items k false) → IsThawing d x sets z new (i + 1)
-thaw_more d x sets y z old new i t st keys r labels awake others = record {
+thaw_more d x sets y z old new i t st keys r labels same awake others = record {
   state = st;
   keys = keys;
   many = t.many;
@@ -229,12 +230,17 @@ thaw_more d x sets y z old new i t st keys r labels awake others = record {
     arena = r.arena ∙ t.same.arena;
     time = r.time ∙ t.same.time;
     inners = r.inners ∙ t.same.inners;
-    mates = r.mates ∙ t.same.mates;
-    joins = r.joins ∙ t.same.joins;
     labels = r.labels ∙ t.same.labels;
     rests = r.rests ∙ t.same.rests;
   };
   labels = labels ∙ t.labels;
+  forest = record {
+    seats = same.seats ∙ t.forest.seats;
+    tree = same.tree ∙ t.forest.tree;
+    mates = same.mates ∙ t.forest.mates;
+    joins = same.joins ∙ t.forest.joins;
+    arena = longer_trans x.arena y.arena z.arena t.forest.arena same.arena;
+  };
   awake = λ k h. elim (cases_eq k i) [
     | inl e ↦ ap (λ j. get_or z.rests.items j false) e ∙ awake
     | inr ne ↦ others k ne ∙ t.awake k (omega (arith, h, ne))

@@ -9,6 +9,7 @@ use Rattle.dpl_flood.specs.declared.event.Event.{Event}
 use Rattle.dpl_flood.specs.declared.event.Event.TheVariants.{Take, Grow, Meet, Leave, GiveWay}
 use Rattle.dpl_flood.specs.declared.state.State.{State}
 use Rattle.dpl_flood.specs.Arenas.{IsOver}
+use Rattle.dpl_flood.specs.Forested.{IsSameForest}
 use Rattle.dpl_flood.specs.Holdings.{stack_of}
 use Rattle.dpl_flood.specs.Queues.{never}
 use Rattle.dpl_flood.specs.Seas.{Sea, HaveMet, HasReached, Drops, due_of, early_keys}
@@ -69,8 +70,6 @@ pub record IsRelabelled (x y : State) : Type 0 where
   pub arena : y.arena ≡ x.arena
   pub time : y.time ≡ x.time
   pub inners : y.inners.items ≡ x.inners.items
-  pub mates : y.mates ≡ x.mates
-  pub joins : y.joins ≡ x.joins
   pub labels : length y.tree.labels.items ≡ length x.tree.labels.items
   pub rests : length y.rests.items ≡ length x.rests.items
 
@@ -92,4 +91,5 @@ pub record IsThawing (d : Dual) (x : State) (sets : ℕ) (y : State) (current : 
   pub many : sets ≡ 2 * (sets_of x.family).size
   pub same : IsRelabelled x y
   pub labels : y.tree ≡ x.tree
+  pub forest : IsSameForest x y
   pub awake : (k : ℕ) → k < count → slice_index_or y.rests.items k false ≡ false

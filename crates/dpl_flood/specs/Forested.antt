@@ -1,17 +1,19 @@
 -- Alternating trees over the tops of moats: Edmonds' trees, all at once, in which the joins that members have are as long as
 -- their loads.
-use Rattle.std.specs.Prelude.{◌≡◌, ◌≢◌, ℕ, ◌+◌, ◌*◌, ◌<◌, true, None, List, length}
+use Rattle.std.specs.Prelude.{◌≡◌, ◌≢◌, ℕ, ◌+◌, ◌*◌, ◌<◌, true, None, length}
+use Rattle.dpl_laminar.specs.Families.{load_of}
 use Rattle.dpl_laminar.specs.Storing.{sets_of}
 use Rattle.dpl_dual.specs.declared.crosses.Dual.{Dual}
+use Rattle.dpl_dual.specs.Duals.{way_at}
 use Rattle.dpl_tree.specs.Stages.{IsStage, IsReady, AreRanked, KeepsTrees, potential}
 use Rattle.dpl_tree.specs.steps.Forests.{Forest, free}
 use Rattle.dpl_tree.specs.Views as views
 use Rattle.dpl_tree.specs.Views.{forest_of}
-use Rattle.dpl_flood.specs.declared.nodes.Node.{Node}
+use Rattle.dpl_flood.specs.declared.event.Crossing.{Crossing}
 use Rattle.dpl_flood.specs.declared.state.State.{State}
-use Rattle.dpl_flood.specs.Arenas.{IsLonger}
-use Rattle.dpl_flood.specs.Joins.{Entries, AreJoins, HaveSeats, dist_in}
-use Rattle.dpl_flood.specs.Seas.{Sea, IsNamed}
+use Rattle.dpl_flood.specs.Arenas.{IsLonger, IsOver}
+use Rattle.dpl_flood.specs.Joins.{AreJoins, HaveSeats, dist_in}
+use Rattle.dpl_flood.specs.Seas.{Sea, IsNamed, HaveMet}
 use Rattle.dpl_flood.specs.States.{IsState, sea_of}
 
 -- the trees of a state, with the pairs between its tops
@@ -61,3 +63,17 @@ pub record IsNearer (x y : State) : Type 0 where
       potential (sets_of x.family).size (sets_of x.family) (trees_of x).place
   pub trees : KeepsTrees (trees_of x) (trees_of y)
   pub ranks : (bound : ℕ) → AreRanked (trees_of x) bound → AreRanked (trees_of y) (bound + 4 * (sets_of x.family).size)
+
+-- two tops have met over a way
+pub record IsMeeting (d : Dual) (x : State) (c : Crossing) : Type 0 where
+  pub forest : IsForested d x
+  pub over : IsOver d.crosses c.from c.way c.to
+  pub met : HaveMet (sea_of x) c.from c.to (way_at d.crosses c.way).length
+
+-- What they have over it is noted: these two members are tight by the joins that members have now, and nothing else is new.
+pub record HasTied (d : Dual) (x y : State) (one two : ℕ) (p : ℕ × ℕ) : Type 0 where
+  pub forest : IsForested d y
+  pub rest : y ≡ record x { joins = y.joins }
+  pub from : p.0 ≡ one
+  pub to : p.1 ≡ two
+  pub tight : load_of (sets_of x.family) p.0 p.1 ≡ dist_of d y p.0 p.1

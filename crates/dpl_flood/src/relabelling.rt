@@ -1,10 +1,13 @@
 //! Tops begin to grow or to fall, stand still and rest. No moat moves.
 
-ghost use Rattle.std.specs.Prelude.{◌≡◌, ◌≢◌, ℕ, ◌*◌, ◌<◌, false, List, slice_index_or};
+ghost use Rattle.std.specs.Prelude.{◌≡◌, ◌≢◌, ℕ, ◌*◌, ◌<◌, ◌^◌, false, List, Option, slice_index, slice_index_or};
 ghost use Rattle.dpl_laminar.specs.Storing.{sets_of};
 ghost use Rattle.dpl_dual.specs.declared.crosses.Dual.{Dual};
-ghost use Rattle.dpl_tree.specs.Views.{place_in};
+ghost use Rattle.dpl_tree.specs.steps.Forests as forests;
+ghost use Rattle.dpl_tree.specs.Views as views;
+ghost use Rattle.dpl_tree.specs.Views.{forest_of, place_in};
 ghost use Rattle.dpl_flood.specs.Events.{IsRelabelled, MayGrow};
+ghost use Rattle.dpl_flood.specs.Forested.{IsSameForest};
 ghost use Rattle.dpl_flood.specs.Rates.{gains_in, losses_in};
 ghost use Rattle.dpl_flood.specs.Seas.{Grows, Ceases};
 ghost use Rattle.dpl_flood.specs.States.{IsState, AreKeys, sea_of};
@@ -12,17 +15,28 @@ ghost use Rattle.dpl_flood.specs.States.{IsState, AreKeys, sea_of};
 use crate::state::State;
 use dpl_tree::Label;
 
-/// A free top that was met falls from now on, and the one that is paired with it grows.
-pub fn grow(state: &mut State, inner: u32, outer: u32)
+/// A free top that was met at a member falls from now on, and that of the mate, which is paired with it, grows: both go into
+/// the tree of the one that met it.
+pub fn grow(state: &mut State, from: u32, to: u32, mate: u32)
     requires state { (d : Dual) × IsState d state.old }
-    requires free { MayGrow (sea_of state.old) inner outer }
-    ensures grows { Grows (sea_of state.old) inner outer (gains_in (place_in state.new.tree.labels.items))
-        (losses_in (place_in state.new.tree.labels.items)) (λ k. slice_index_or state.new.rests.items k false) }
+    requires from { from < (sets_of state.old.family).size }
+    requires to { to < (sets_of state.old.family).size }
+    requires mate { mate < (sets_of state.old.family).size }
+    requires sized { views.IsSized (sets_of state.old.family).size state.old.tree }
+    requires low { (i : ℕ) → slice_index state.old.tree.ranks.items i < 2 ^ 60 }
+    requires free { MayGrow (sea_of state.old) ((sets_of state.old.family).top to) ((sets_of state.old.family).top mate) }
+    ensures grows { Grows (sea_of state.old) ((sets_of state.old.family).top to) ((sets_of state.old.family).top mate)
+        (gains_in (place_in state.new.tree.labels.items)) (losses_in (place_in state.new.tree.labels.items))
+        (λ k. slice_index_or state.new.rests.items k false) }
+    ensures tree { (mates : List (Option ℕ)) → forests.Grows (sets_of state.old.family) (forest_of state.old.tree mates)
+        from to mate (forest_of state.new.tree mates) }
+    ensures sized { views.IsSized (sets_of state.old.family).size state.new.tree }
+    ensures pairs { (state.new.mates ≡ state.old.mates) × (state.new.joins ≡ state.old.joins) }
     ensures rest { IsRelabelled state.old state.new }
     ensures state { (d : Dual) → IsState d state.old → IsState d state.new }
 {
-    state.tree.labels[inner as usize] = Label::Inner;
-    state.tree.labels[outer as usize] = Label::Outer;
+    let outer = state.family.tops(mate);
+    dpl_tree::grow(&state.family, &mut state.tree, from, to, mate);
     state.rests[outer as usize] = false;
 }
 
@@ -45,6 +59,7 @@ pub fn rouse(state: &mut State, set: u32)
     requires state { (d : Dual) × IsState d state.old }
     requires set { set < 2 * (sets_of state.old.family).size }
     ensures tree { state.new.tree ≡ state.old.tree }
+    ensures same { IsSameForest state.old state.new }
     ensures awake { slice_index_or state.new.rests.items set false ≡ false }
     ensures others { (k : ℕ) → k ≢ set →
         slice_index_or state.new.rests.items k false ≡ slice_index_or state.old.rests.items k false }

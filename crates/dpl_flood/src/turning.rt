@@ -1,10 +1,12 @@
 //! Tops begin to move, or rest no more, and the keys that this bears on are set anew.
 
-ghost use Rattle.std.specs.Prelude.{◌≡◌, ◌≢◌, ℕ, ◌*◌, ◌<◌, false, slice_index_or};
+ghost use Rattle.std.specs.Prelude.{◌≡◌, ◌≢◌, ℕ, ◌*◌, ◌<◌, ◌^◌, false, List, Option, slice_index, slice_index_or};
 ghost use Rattle.dpl_laminar.specs.Storing.{sets_of};
-ghost use Rattle.dpl_tree.specs.Views.{place_in};
+ghost use Rattle.dpl_tree.specs.steps.Forests as forests;
+ghost use Rattle.dpl_tree.specs.Views as views;
+ghost use Rattle.dpl_tree.specs.Views.{forest_of, place_in};
 ghost use Rattle.dpl_flood.specs.Events.{IsRelabelled, MayGrow};
-ghost use Rattle.dpl_flood.specs.Forested.{IsForested};
+ghost use Rattle.dpl_flood.specs.Forested.{IsForested, IsSameForest};
 ghost use Rattle.dpl_flood.specs.Rates.{gains_in, losses_in};
 ghost use Rattle.dpl_flood.specs.Seas.{Grows};
 ghost use Rattle.dpl_flood.specs.States.{IsState, AreKeys, sea_of};
@@ -18,26 +20,39 @@ use crate::ways::Step;
 use dpl_dual::Dual;
 use dpl_list::Grouped;
 
-/// A free top that was met falls from now on, the one that is paired with it grows, and their keys are set anew.
-pub fn enter(
+/// A free top that was met at a member falls from now on, that of the mate grows, and their keys are set anew.
+pub(crate) fn turn(
     state: &mut State,
     dual: &Dual,
     steps: &Grouped<Step>,
     queue: &mut Queue,
-    inner: u32,
-    outer: u32,
+    from: u32,
+    to: u32,
+    mate: u32,
 )
     requires state { IsState dual.now state.old }
     requires keys { AreKeys dual.now state.old queue.old }
     requires steps { steps.now ≡ step_rows dual.now.crosses dual.now.faces }
-    requires free { MayGrow (sea_of state.old) inner outer }
-    ensures grows { Grows (sea_of state.old) inner outer (gains_in (place_in state.new.tree.labels.items))
-        (losses_in (place_in state.new.tree.labels.items)) (λ k. slice_index_or state.new.rests.items k false) }
+    requires from { from < (sets_of state.old.family).size }
+    requires to { to < (sets_of state.old.family).size }
+    requires mate { mate < (sets_of state.old.family).size }
+    requires sized { views.IsSized (sets_of state.old.family).size state.old.tree }
+    requires low { (i : ℕ) → slice_index state.old.tree.ranks.items i < 2 ^ 60 }
+    requires free { MayGrow (sea_of state.old) ((sets_of state.old.family).top to) ((sets_of state.old.family).top mate) }
+    ensures grows { Grows (sea_of state.old) ((sets_of state.old.family).top to) ((sets_of state.old.family).top mate)
+        (gains_in (place_in state.new.tree.labels.items)) (losses_in (place_in state.new.tree.labels.items))
+        (λ k. slice_index_or state.new.rests.items k false) }
+    ensures tree { (mates : List (Option ℕ)) → forests.Grows (sets_of state.old.family) (forest_of state.old.tree mates)
+        from to mate (forest_of state.new.tree mates) }
+    ensures sized { views.IsSized (sets_of state.old.family).size state.new.tree }
+    ensures pairs { (state.new.mates ≡ state.old.mates) × (state.new.joins ≡ state.old.joins) }
     ensures rest { IsRelabelled state.old state.new }
     ensures state { IsState dual.now state.new }
     ensures keys { AreKeys dual.now state.new queue.new }
 {
-    grow(state, inner, outer);
+    let inner = state.family.tops(to);
+    let outer = state.family.tops(mate);
+    grow(state, from, to, mate);
     look_set(state, dual, queue, inner);
     look_top(state, dual, steps, queue, outer);
 }
@@ -49,6 +64,7 @@ fn wake(state: &mut State, dual: &Dual, steps: &Grouped<Step>, queue: &mut Queue
     requires steps { steps.now ≡ step_rows dual.now.crosses dual.now.faces }
     requires set { set < 2 * (sets_of state.old.family).size }
     ensures tree { state.new.tree ≡ state.old.tree }
+    ensures same { IsSameForest state.old state.new }
     ensures awake { slice_index_or state.new.rests.items set false ≡ false }
     ensures others { (k : ℕ) → k ≢ set →
         slice_index_or state.new.rests.items k false ≡ slice_index_or state.old.rests.items k false }
@@ -69,6 +85,7 @@ pub fn thaw(state: &mut State, dual: &Dual, steps: &Grouped<Step>, queue: &mut Q
     requires keys { AreKeys dual.now state.old queue.old }
     requires steps { steps.now ≡ step_rows dual.now.crosses dual.now.faces }
     ensures tree { state.new.tree ≡ state.old.tree }
+    ensures same { IsSameForest state.old state.new }
     ensures awake { (k : ℕ) → slice_index_or state.new.rests.items k false ≡ false }
     ensures rest { IsRelabelled state.old state.new }
     ensures state { IsState dual.now state.new }

@@ -25,8 +25,6 @@ returns-clause-keys c = λ d keys st k. ceased_keys d c.args.state.now _ keys st
       arena = refl;
       time = refl;
       inners = refl;
-      mates = refl;
-      joins = refl;
       labels = length-set c.args.state.now.tree.labels.items c.args.set _;
       rests = length-set c.args.state.now.rests.items c.args.set _;
     })

@@ -18,11 +18,11 @@ wake-requires-clause-set c = omega (arith, c.loop-i-test.true, c.loop-i.invarian
 
 pub loop-i-preserved : goal.loop-i-preserved
 loop-i-preserved c = thaw_more c.args.dual.now c.args.state.now _ c.loop-i.state c.wake.new.state c.loop-i.queue c.wake.new.queue c.loop-i.i
-    c.loop-i.invariant c.wake.ensures.state c.wake.ensures.keys c.wake.ensures.rest c.wake.ensures.tree c.wake.ensures.awake c.wake.ensures.others
+    c.loop-i.invariant c.wake.ensures.state c.wake.ensures.keys c.wake.ensures.rest c.wake.ensures.tree c.wake.ensures.same c.wake.ensures.awake c.wake.ensures.others
 
 pub returns-clause-awake : goal.returns-clause-awake
 returns-clause-awake c = thawed_all c.args.dual.now c.args.state.now _ c.loop-i.state c.loop-i.queue c.loop-i.i c.loop-i.invariant c.loop-i-test.false
 
 pub returns-clause-forest : goal.returns-clause-forest
-returns-clause-forest c = λ f. forest_woken c.args.dual.now c.args.state.now c.loop-i.state f c.loop-i.invariant.state c.loop-i.invariant.same c.loop-i.invariant.labels
+returns-clause-forest c = λ f. forest_woken c.args.dual.now c.args.state.now c.loop-i.state f c.loop-i.invariant.state c.loop-i.invariant.same c.loop-i.invariant.forest
     (thawed_all c.args.dual.now c.args.state.now _ c.loop-i.state c.loop-i.queue c.loop-i.i c.loop-i.invariant c.loop-i-test.false)
