@@ -5,6 +5,7 @@ mod JoinLemmas
 mod NotedLemmas
 mod ChainedLemmas
 mod HolderLemmas
+mod PairLemmas
 mod StepLemmas
 pub mod DueLemmas
 pub mod ShoreLemmas

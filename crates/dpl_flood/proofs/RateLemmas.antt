@@ -9,10 +9,10 @@ use Rattle.dpl_dual.specs.declared.crosses.Dual.{Dual}
 use Rattle.dpl_pack.specs.Points.{total_at}
 use Rattle.dpl_tree.specs.Mates.{totals}
 use Rattle.dpl_tree.specs.Stages.{IsStage, Ends}
-use Rattle.dpl_tree.specs.steps.Forests.{Place, free, outer, inner, gain, drop_of, Forest, IsCycle, Opens, Walks}
+use Rattle.dpl_tree.specs.steps.Forests.{Place, free, outer, inner, gain, drop_of, Forest, IsCycle, Opens, Walks, KeepOthers}
 use Rattle.dpl_tree.specs.steps.Forests as forests
 use Rattle.dpl_flood.specs.Seas.{Sea, IsSea, Grows, Ceases, Folds, GivesWay}
-use Rattle.dpl_flood.specs.Rates.{gains_in, losses_in, AreRated, AreRested, KeepOthers}
+use Rattle.dpl_flood.specs.Rates.{gains_in, losses_in, AreRated, AreRested}
 
 cases_place : (p : Place) → (p ≡ free) ⊎ ((p ≢ free) × (gain p + drop_of p ≡ 1))
 cases_place free = inl refl

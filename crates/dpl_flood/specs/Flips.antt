@@ -1,5 +1,5 @@
 -- The edges that lie on an odd number of chains.
-use Rattle.std.specs.Prelude.{◌≡◌, ℕ, ◌+◌, ◌%◌, ◌<◌, ◌==◌, Bool, List, [], ◌∷◌, length, count_by, All, slice_index, if◌then◌else◌}
+use Rattle.std.specs.Prelude.{◌≡◌, ◌≢◌, ℕ, ◌+◌, ◌%◌, ◌<◌, ◌≤◌, ◌==◌, Bool, List, [], ◌∷◌, length, count_by, All, slice_index, if◌then◌else◌}
 use Rattle.std.specs.List.{flat_map}
 use Rattle.dpl_map.specs.Planes.{joined_bit}
 use Rattle.dpl_laminar.specs.Families.{Sets, total_of}
@@ -45,6 +45,11 @@ pub record ArePairsJoined (ways : List Cross) (terminals : List ℕ) (mate : ℕ
   pub places : length new ≡ length old
   pub each : (e : ℕ) → e < length old → joined_bit new e % 2
       ≡ (joined_bit old e + times (all_ways chains) e) % 2
+
+-- between any two of these faces a chain leads that is no longer
+abbrev pub AreOverChains : List Cross → List ℕ → (ℕ → ℕ → ℕ) → Type 0
+AreOverChains ways terminals long = (s t : ℕ) → s < length terminals → t < length terminals → s ≢ t → (xs : List Cross) ×
+    Leads ways (slice_index terminals s) xs (slice_index terminals t) × (length_of xs ≤ long s t)
 
 -- the faces have been joined in pairs along chains which are as long as the family weighs
 pub record AreJoinedBy (d : Dual) (terminals : List ℕ) (f : Sets)

@@ -1,7 +1,6 @@
 -- Trees over the tops of moats: an outer top grows, an inner one falls, and a free one does neither, as in Edmonds'
 -- alternating trees.
-use Rattle.std.specs.Prelude.{◌≡◌, ◌≢◌, ℕ, Bool, true, false, List}
-use Rattle.dpl_laminar.specs.Families.{has}
+use Rattle.std.specs.Prelude.{◌≡◌, ◌≢◌, ℕ, Bool, true}
 use Rattle.dpl_tree.specs.steps.Forests.{Place, free, gain, drop_of}
 use Rattle.dpl_flood.specs.Seas.{Sea}
 
@@ -21,7 +20,3 @@ pub record AreRated (place : ℕ → Place) (s : Sea) : Type 0 where
 pub record AreRested (old new : ℕ → Place) (rests after : ℕ → Bool) : Type 0 where
   pub left : (k : ℕ) → old k ≢ free → new k ≡ free → after k ≡ true
   pub others : (k : ℕ) → new k ≡ old k → after k ≡ rests k
-
--- but for a set and these children of it all stands as it did
-abbrev pub KeepOthers : List ℕ → ℕ → (ℕ → Place) → (ℕ → Place) → Type 0
-KeepOthers children set old new = (k : ℕ) → k ≢ set → has children k ≡ false → new k ≡ old k

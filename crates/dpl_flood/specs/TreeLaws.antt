@@ -4,10 +4,10 @@ use Rattle.dpl_laminar.specs.Families.{Sets, IsFamily, has}
 use Rattle.dpl_laminar.specs.Changes.{IsShrunk, IsExpanded}
 use Rattle.dpl_dual.specs.declared.crosses.Dual.{Dual}
 use Rattle.dpl_tree.specs.Stages.{IsStage, Ends}
-use Rattle.dpl_tree.specs.steps.Forests.{free, outer, inner, Forest, IsCycle, Opens, Walks}
+use Rattle.dpl_tree.specs.steps.Forests.{free, outer, inner, Forest, IsCycle, Opens, Walks, KeepOthers}
 use Rattle.dpl_tree.specs.steps.Forests as forests
 use Rattle.dpl_flood.specs.Seas.{Sea, IsSea, Grows, Ceases, Folds, GivesWay}
-use Rattle.dpl_flood.specs.Rates.{gains_in, losses_in, AreRated, AreRested, KeepOthers}
+use Rattle.dpl_flood.specs.Rates.{gains_in, losses_in, AreRated, AreRested}
 
 -- A free top and its mate go into a tree.
 abbrev pub ForestsGrow : Type 0

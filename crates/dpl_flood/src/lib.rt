@@ -60,7 +60,7 @@ pub use laws::{
 };
 pub use looks::{look_around, look_set, look_top, look_way};
 pub use nodes::{Join, Last, Node};
-pub use pairs::join_pairs;
+pub use pairs::{join_all, join_pairs};
 pub use passing::advance;
 pub use queue::Queue;
 pub use relabelling::{cease, grow, rouse};

@@ -4,7 +4,6 @@ pub mod Comparing
 pub mod Going
 pub mod Nearest
 pub mod Outsiders
-pub mod Parted
 pub mod Scans
 pub mod Starting
 pub mod Turns

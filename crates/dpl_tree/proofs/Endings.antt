@@ -7,7 +7,7 @@ use Rattle.dpl_tree.specs.declared.tree.Tree.{Tree}
 use Rattle.dpl_tree.specs.steps.Climbs.{IsWay, IsClimbed, IsReleased}
 use Rattle.dpl_tree.specs.steps.Forests.{free, outer, inner, Forest, IsForest, IsExposed, IsPair}
 use Rattle.dpl_tree.specs.Mates.{IsExit, ArePairs, loads}
-use Rattle.dpl_tree.specs.Metrics.{IsMetric}
+use Rattle.dpl_tree.specs.Metrics.{AreSymmetric}
 use Rattle.dpl_tree.specs.Stages.{IsStage, IsReady, Ends}
 use Rattle.dpl_tree.specs.Views.{forest_of, place_in, mate_in, IsSized}
 use Rattle.dpl_tree.proofs.Growing.{outer_in, inner_in, exit_cases}
@@ -144,7 +144,7 @@ end_paired n f dist x new s t pt c = record {
 }
 
 -- the climb in the first of two trees, where the top of t in the second one has been freed
-pub join_begun : (n : ℕ) (f : Sets) (dist : ℕ → ℕ → ℕ) (x : Forest) (mid : ℕ → Option ℕ) (s t : ℕ) → IsMetric n dist
+pub join_begun : (n : ℕ) (f : Sets) (dist : ℕ → ℕ → ℕ) (x : Forest) (mid : ℕ → Option ℕ) (s t : ℕ) → AreSymmetric n dist
     → IsStage n f dist x → IsPair n f x.place outer s t → loads n f s t ≡ dist s t → x.tree (f.top s) ≢ x.tree (f.top t)
     → IsReleased n f dist x t mid → IsWay n f dist x mid (s, t)
 join_begun n f dist x mid s t me st p tight ne r = record {
@@ -155,7 +155,7 @@ join_begun n f dist x mid s t me st p tight ne r = record {
     s_outer = p.from_outer;
     apart = p.apart;
     tight = tight;
-    tight_back = load_turned n f t s ∙ tight ∙ me.symmetric s t p.from p.to;
+    tight_back = load_turned n f t s ∙ tight ∙ me s t p.from p.to;
     pairs = r.pairs;
     t_free = r.exposed;
     t_rank = λ z e. absurd (ne (sym e));
@@ -211,14 +211,14 @@ number_read {n} {f} {tree} {number} {set} {s} lam size hs e es =
 -- ---- the calls, by the lists as each step of the code left them
 
 -- a member with no pair outside of all trees: the climb begins
-pub end_way : {n : ℕ} {f : Sets} {dist : ℕ → ℕ → ℕ} {read : List (Option ℕ)} {s t : ℕ} (tree : Tree) (mates : List (Option ℕ)) → IsMetric n dist
+pub end_way : {n : ℕ} {f : Sets} {dist : ℕ → ℕ → ℕ} {read : List (Option ℕ)} {s t : ℕ} (tree : Tree) (mates : List (Option ℕ)) → AreSymmetric n dist
     → IsStage n f dist (forest_of tree mates) → IsPair n f (place_in tree.labels.items) free s t → loads n f s t ≡ dist s t
     → IsExposed n f (mate_in mates) (f.top t) → read ≡ mates → IsWay n f dist (forest_of tree mates) (mate_in read) (s, t)
 end_way {n} {f} {dist} {read} {s} {t} tree mates me st p tight bare e =
     subst (λ (z : List (Option ℕ)). IsWay n f dist (forest_of tree mates) (mate_in z) (s, t)) (sym e) (record {
       stage = st;
       climb = climb_begun n f dist (forest_of tree mates) s t st.rest.pairs p.from p.to p.from_outer p.to_place tight
-          (load_turned n f t s ∙ tight ∙ me.symmetric s t p.from p.to) bare;
+          (load_turned n f t s ∙ tight ∙ me s t p.from p.to) bare;
     })
 
 -- and what it leaves
@@ -243,7 +243,7 @@ end_done {n} {f} {dist} {read} {made} {back} {s} {t} {number} old new mates st p
     subst (λ (z : ℕ). Ends n dist f z z x (forest_of new back)) (sym eo) (ended n f dist (x.tree (f.top s)) (x.tree (f.top s)) x (forest_of new back) st pd g1 (f.top s, outer_in p.from_outer, refl))
 
 -- the same of outer members of two trees
-pub join_way : {n : ℕ} {f : Sets} {dist : ℕ → ℕ → ℕ} {read mid : List (Option ℕ)} {s t : ℕ} (tree : Tree) (mates : List (Option ℕ)) → IsMetric n dist
+pub join_way : {n : ℕ} {f : Sets} {dist : ℕ → ℕ → ℕ} {read mid : List (Option ℕ)} {s t : ℕ} (tree : Tree) (mates : List (Option ℕ)) → AreSymmetric n dist
     → IsStage n f dist (forest_of tree mates) → IsPair n f (place_in tree.labels.items) outer s t → loads n f s t ≡ dist s t
     → get_or tree.trees.items (f.top s) 0 ≢ get_or tree.trees.items (f.top t) 0
     → IsReleased n f dist (forest_of tree mates) t (mate_in mid) → read ≡ mid → IsWay n f dist (forest_of tree mates) (mate_in read) (s, t)

@@ -8,6 +8,7 @@ use Rattle.dpl_laminar.proofs.Numbers.{true_false}
 use Rattle.dpl_tree.specs.steps.Forests.{Forest, Folds}
 use Rattle.dpl_tree.specs.Mates.{DropsInside, loads}
 use Rattle.dpl_tree.specs.Stages.{IsStage, Advances, AreRanked}
+use Rattle.dpl_tree.specs.steps.Growth.{HasFolded}
 use Rattle.dpl_tree.specs.steps.Joins.{tops_from, is_end, AreClimbing, ways}
 use Rattle.dpl_tree.proofs.Alike.{totals_alike, shrunk_alike}
 use Rattle.dpl_tree.proofs.Events.{IsEvent, folded_stage, folded_ready}
@@ -131,3 +132,19 @@ folded_up {n} {k} {f} {g} {dist} {x} {y} {joins} {cs} {ds} {meet} {set} st w e e
       widens = folded_widens n f g dist x y joins cs ds meet set st (e ∙ sym e') sh o;
       trees = folded_trees x y ds meet set w.cycle.meet_outer o;
     }
+
+-- and what they became
+pub folded_so : {k : ℕ} {f g : Sets} {dist : ℕ → ℕ → ℕ} {x y : Forest} {joins : List (ℕ × ℕ)} {cs ds : List ℕ} {meet set : ℕ}
+    → IsFolding f.size f dist x joins meet → cs ≡ tops_from f joins → ds ≡ tops_from f joins
+    → IsShrunk f cs joins set g → IsFamily g → k ≡ f.size → DropsInside k g x.mate y.mate → Folds x ds meet set y
+    → HasFolded f x set g y
+folded_so {k} {f} {g} {dist} {x} {y} {joins} {cs} {ds} {meet} {set} w e e' sh fam size drops o = record {
+  children = tops_from f joins;
+  joins = joins;
+  meet = meet;
+  shrunk = subst (λ (z : List ℕ). IsShrunk f z joins set g) e sh;
+  family = fam;
+  cycle = w.cycle;
+  folds = subst (λ (z : List ℕ). Folds x z meet set y) e' o;
+  drops = subst (λ (z : ℕ). DropsInside z g x.mate y.mate) size drops;
+}

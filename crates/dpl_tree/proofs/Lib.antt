@@ -9,12 +9,13 @@ pub mod Folded
 pub mod Folding
 pub mod Growing
 pub mod Loads
-pub mod MatchingLemmas
 pub mod Meetings
 pub mod MetricLemmas
+pub mod Nexts
 pub mod Numbering
 pub mod Opening
 pub mod Parity
+pub mod PartedLemmas
 pub mod Parting
 pub mod Raising
 pub mod Refining

@@ -12,7 +12,7 @@ use Rattle.dpl_laminar.specs.Changes.{AreTops}
 use Rattle.dpl_laminar.proofs.Numbers.{has_head, has_tail}
 use Rattle.dpl_tree.specs.steps.Forests.{outer, inner, Forest, IsCycle}
 use Rattle.dpl_tree.specs.Mates.{IsExit, loads}
-use Rattle.dpl_tree.specs.Metrics.{IsMetric}
+use Rattle.dpl_tree.specs.Metrics.{AreSymmetric}
 use Rattle.dpl_tree.specs.Stages.{IsStage}
 use Rattle.dpl_tree.specs.steps.Joins.{IsWay, times_in, tops_from, tops_to, is_end, AreGathered, met_on, AreClimbing, ways}
 use Rattle.dpl_tree.proofs.Growing.{place_cases, outer_in, inner_in, outer_inner_no, exit_one, exit_back}
@@ -328,7 +328,7 @@ step_of n f dist x a m t st pa ex =
 
 -- the left way goes one step on
 pub climbing_left : (n : ℕ) (f : Sets) (dist : ℕ → ℕ → ℕ) (x : Forest) (s t : ℕ) (left right : List (ℕ × ℕ)) (a b m u : ℕ)
-    → IsMetric n dist → IsStage n f dist x → AreClimbing n f dist x (s, t) (ways left right a b) → a ≢ b
+    → AreSymmetric n dist → IsStage n f dist x → AreClimbing n f dist x (s, t) (ways left right a b) → a ≢ b
     → x.rank b ≤ x.rank a → IsExit n f x.mate a m u
     → AreClimbing n f dist x (s, t) (ways ((left ++ (u, m) ∷ []) ++ (x.above (f.top u), x.entry (f.top u)) ∷ []) right (f.top (x.above (f.top u))) b)
 climbing_left n f dist x s t left right a b m u me st c ne low ex =
@@ -337,7 +337,7 @@ climbing_left n f dist x s t left right a b m u me st c ne low ex =
     let link : ℕ × ℕ = (x.above i, x.entry i) in
     let e : reverse ((left ++ (u, m) ∷ []) ++ link ∷ []) ≡ link ∷ (u, m) ∷ reverse left =
     reverse_push (left ++ (u, m) ∷ []) link ∙ ap (λ z. link ∷ z) (reverse_push left (u, m)) in
-    let tight : loads n f u m ≡ dist u m = load_turned n f u m ∙ w.tight_pair ∙ me.symmetric m u w.hm w.ht in
+    let tight : loads n f u m ≡ dist u m = load_turned n f u m ∙ w.tight_pair ∙ me m u w.hm w.ht in
     let rest : IsWay n f dist (f.top m) (reverse left) (f.top s) =
     subst (λ (z : ℕ). IsWay n f dist z (reverse left) (f.top s)) (sym ex.top) c.way_left in
     let way : IsWay n f dist (f.top (x.above i)) (link ∷ (u, m) ∷ reverse left) (f.top s) =
@@ -364,7 +364,7 @@ climbing_left n f dist x s t left right a b m u me st c ne low ex =
 
 -- the right way goes one step on
 pub climbing_right : (n : ℕ) (f : Sets) (dist : ℕ → ℕ → ℕ) (x : Forest) (s t : ℕ) (left right : List (ℕ × ℕ)) (a b m u : ℕ)
-    → IsMetric n dist → IsStage n f dist x → AreClimbing n f dist x (s, t) (ways left right a b) → a ≢ b
+    → AreSymmetric n dist → IsStage n f dist x → AreClimbing n f dist x (s, t) (ways left right a b) → a ≢ b
     → x.rank a ≤ x.rank b → IsExit n f x.mate b m u
     → AreClimbing n f dist x (s, t) (ways left ((right ++ (m, u) ∷ []) ++ (x.entry (f.top u), x.above (f.top u)) ∷ []) a (f.top (x.above (f.top u))))
 climbing_right n f dist x s t left right a b m u me st c ne low ex =
@@ -372,7 +372,7 @@ climbing_right n f dist x s t left right a b m u me st c ne low ex =
     let i : ℕ = f.top u in
     let link : ℕ × ℕ = (x.entry i, x.above i) in
     let tight : loads n f (x.entry i) (x.above i) ≡ dist (x.entry i) (x.above i) =
-    load_turned n f (x.entry i) (x.above i) ∙ w.tight_link ∙ me.symmetric (x.above i) (x.entry i) w.ha w.he in
+    load_turned n f (x.entry i) (x.above i) ∙ w.tight_link ∙ me (x.above i) (x.entry i) w.ha w.he in
     let first : IsWay n f dist b ((m, u) ∷ []) i = (w.hm, w.ht, ex.top, w.tight_pair, refl) in
     let second : IsWay n f dist i (link ∷ []) (f.top (x.above i)) = (w.he, w.ha, w.entry, tight, refl) in
     let longer : List (ℕ × ℕ) = (right ++ (m, u) ∷ []) ++ link ∷ [] in

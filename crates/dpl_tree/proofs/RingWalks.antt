@@ -10,7 +10,7 @@ use Rattle.dpl_laminar.proofs.Numbers.{true_false, some_none}
 use Rattle.dpl_tree.specs.declared.tree.Label.TheVariants.{Free, Outer, Inner}
 use Rattle.dpl_tree.specs.steps.Forests.{free, Forest, IsBroken, Opens, Walks, gap}
 use Rattle.dpl_tree.specs.Mates.{IsExit, ArePairs, loads}
-use Rattle.dpl_tree.specs.Metrics.{IsMetric}
+use Rattle.dpl_tree.specs.Metrics.{AreSymmetric}
 use Rattle.dpl_tree.specs.Stages.{IsStage, Advances, KeepsTrees}
 use Rattle.dpl_tree.specs.Views.{mate_in, place_in, place_of}
 use Rattle.dpl_tree.specs.steps.Opened.{IsAround, IsOpening, around, Lists, forest_in, step_in, walked_times, paired_times}
@@ -173,7 +173,7 @@ opening_row n f g dist set sets joins q a = record {
 
 -- an inner set has given way to the children of its ring
 pub opening_done : (n : ℕ) (f g : Sets) (dist : ℕ → ℕ → ℕ) (x : Forest) (set : ℕ) (sets : List ℕ) (joins : List (ℕ × ℕ))
-    (p : ℕ) (mates : List (Option ℕ)) (l : Lists) (bound : ℕ) → IsMetric n dist → length mates ≡ n →
+    (p : ℕ) (mates : List (Option ℕ)) (l : Lists) (bound : ℕ) → AreSymmetric n dist → length mates ≡ n →
     x.mate ≡ mate_in mates → IsStage n f dist x →
     IsOpening n f dist x set (around sets joins p) → IsExpanded f set g → IsFamily g → AreLong (2 * n) l →
     Opens x set (get_or sets 0 0) p (forest_in l
@@ -220,7 +220,7 @@ opening_done n f g dist x set sets joins p mates l bound me len em st o ex fam l
     } in
     let half : ℕ = length joins / 2 in
     let eh : 2 * half + 1 ≡ length sets = omega (arith, a.count, a.odd) in
-    let by = ring_paired n g load dist sets joins p mates len (load_turned n f) me.symmetric row a.odd o.even o.place begun half (omega (arith, eh)) in
+    let by = ring_paired n g load dist sets joins p mates len (load_turned n f) me row a.odd o.even o.place begun half (omega (arith, eh)) in
     let pd : ArePaired n g load dist sets joins p (2 * half + 1) (mate_in mates) new = by.behind (omega (arith, eh, o.place)) in
     let keep = λ (m : ℕ) (hm : m < n) (ne : f.top m ≢ set). pd.kept m hm (λ i h _ e. ne (back i m h hm e)) ∙ sym (xm m) in
     let kept0 : new m0 ≡ Some t0 = pd.kept m0 o.exit.below (λ i h ne e. apart i p h o.place ne (sym e ∙ top0)) ∙ sym (xm m0) ∙ o.exit.paired in

@@ -12,7 +12,7 @@ use Rattle.dpl_laminar.specs.Families.{Sets, IsFamily, has, next_in, climb, AreR
 use Rattle.dpl_laminar.specs.Changes.{IsNext}
 use Rattle.dpl_laminar.proofs.Numbers.{has_at, place_in, cases_Option, some_none}
 use Rattle.dpl_tree.specs.Mates.{loads}
-use Rattle.dpl_tree.specs.Metrics.{IsMetric}
+use Rattle.dpl_tree.specs.Metrics.{AreSymmetric}
 use Rattle.dpl_tree.specs.Stages.{IsRest}
 use Rattle.dpl_tree.specs.steps.Opened.{IsAround}
 use Rattle.dpl_tree.specs.steps.Rounds.{IsPart, IsRingFrom, IsTurned}
@@ -282,7 +282,7 @@ ring_around n f dist mate set first sets joins rest ns hs live ep ring =
 
 -- the same the other way around
 pub around_turned : (n : ℕ) (f : Sets) (dist : ℕ → ℕ → ℕ) (set : ℕ) (sets sets' : List ℕ) (joins joins' : List (ℕ × ℕ))
-    → IsMetric n dist → IsAround n f dist set sets joins → IsTurned sets joins sets' joins'
+    → AreSymmetric n dist → IsAround n f dist set sets joins → IsTurned sets joins sets' joins'
     → IsAround n f dist set sets' joins'
 around_turned n f dist set sets sets' joins joins' me a t =
     let k : ℕ = length sets in
@@ -355,7 +355,7 @@ around_turned n f dist set sets sets' joins joins' me a t =
           let b = back i hi in
           let x : ℕ = (get_or joins (k - 1 - i) (0, 0)).0 in
           let y : ℕ = (get_or joins (k - 1 - i) (0, 0)).1 in
-          let e : loads n f y x ≡ dist y x = load_turned n f y x ∙ a.tight (k - 1 - i) b ∙ me.symmetric x y (a.from (k - 1 - i) b).0 (a.to (k - 1 - i) b).0 in
+          let e : loads n f y x ≡ dist y x = load_turned n f y x ∙ a.tight (k - 1 - i) b ∙ me x y (a.from (k - 1 - i) b).0 (a.to (k - 1 - i) b).0 in
           ap (λ z. loads n f z (get_or joins' i (0, 0)).1) (t.each_from i hi) ∙ ap (loads n f y) (t.each_to i hi) ∙ e ∙
           sym (ap (λ z. dist z (get_or joins' i (0, 0)).1) (t.each_from i hi) ∙ ap (dist y) (t.each_to i hi));
     }

@@ -1,15 +1,16 @@
 -- An inner set and the ring of its children, and what the tree is after it gave way to them.
 use Rattle.std.proofs.Common.{arith, ◌≡◌, ◌≢◌, ℕ, ◌+◌, ◌-◌, ◌*◌, ◌/◌, ◌%◌, ◌^◌, ◌<◌, ◌≤◌, refl, sym, ap, ◌∙◌, subst, true, Option, Some, List, length, get_or}
 use Rattle.std.proofs.Math.Nat.{mod-eq_of_lt}
-use Rattle.dpl_laminar.specs.Families.{Sets, IsFamily}
+use Rattle.dpl_laminar.specs.Families.{Sets, IsFamily, has}
 use Rattle.dpl_laminar.specs.Changes.{IsExpanded}
-use Rattle.dpl_laminar.proofs.Numbers.{some_none}
+use Rattle.dpl_laminar.proofs.Numbers.{some_none, true_false}
 use Rattle.dpl_tree.specs.declared.tree.Tree.{Tree}
 use Rattle.dpl_tree.specs.steps.Forests.{Forest, Opens, inner}
 use Rattle.dpl_tree.specs.Mates.{IsExit}
-use Rattle.dpl_tree.specs.Metrics.{IsMetric}
+use Rattle.dpl_tree.specs.Metrics.{AreSymmetric}
 use Rattle.dpl_tree.specs.Stages.{IsStage, Advances, AreRanked, KeepsTrees}
-use Rattle.dpl_tree.specs.Views.{mate_in, forest_of, IsSized}
+use Rattle.dpl_tree.specs.Views.{mate_in, forest_of, place_in, IsSized}
+use Rattle.dpl_tree.specs.steps.Growth.{HasGivenWay}
 use Rattle.dpl_tree.specs.steps.Opened.{IsAround, IsOpening, around, Lists, lists_of, forest_in, walked_times, paired_times}
 use Rattle.dpl_tree.specs.steps.Rounds.{IsRingFrom, IsTurned}
 use Rattle.dpl_tree.proofs.Alike.{totals_alike, expanded_alike}
@@ -17,7 +18,7 @@ use Rattle.dpl_tree.proofs.Events.{IsEvent}
 use Rattle.dpl_tree.proofs.Growing.{inner_in}
 use Rattle.dpl_tree.proofs.Counting.{ring_short}
 use Rattle.dpl_tree.proofs.RingWalks.{opening_done}
-use Rattle.dpl_tree.proofs.Widening.{given_widens}
+use Rattle.dpl_tree.proofs.Widening.{given_widens, walked_others}
 use Rattle.dpl_tree.proofs.RoundLemmas.{ring_around, around_turned}
 
 -- what is known of an inner set that is to give way
@@ -100,7 +101,7 @@ opening_forward {f = f} {x = x} {set = set} {first = first} {m0 = m0} {t0 = t0} 
 
 -- the ring the other way around, where it is odd; the list is read twice
 pub opening_backward : {n : ℕ} {f : Sets} {dist : ℕ → ℕ → ℕ} {x : Forest} {set first last m0 t0 at count : ℕ}
-    → {sets seen read sets' : List ℕ} {joins read_joins joins' : List (ℕ × ℕ)} → IsMetric n dist
+    → {sets seen read sets' : List ℕ} {joins read_joins joins' : List (ℕ × ℕ)} → AreSymmetric n dist
     → IsGiving n f dist x set first last m0 t0 sets joins → seen ≡ sets → at < length seen
     → get_or seen at 0 ≡ last → at % 2 ≢ 0 → read ≡ sets → read_joins ≡ joins
     → IsTurned read read_joins sets' joins' → count ≡ length sets
@@ -149,7 +150,7 @@ opening_first {n} {f} {set = set} {first = first} {sets = sets} st o is seen =
 
 -- an inner set gave way to its ring, by the lists as each step read them: js by the pairs, ss by the entry, ws and ks by the walk
 pub gave_way : {n : ℕ} {f g : Sets} {dist : ℕ → ℕ → ℕ} {t0 t1 t2 : Tree} {set first p : ℕ}
-    → {sets ss ws : List ℕ} {joins js ks : List (ℕ × ℕ)} (mates new : List (Option ℕ)) → IsMetric n dist
+    → {sets ss ws : List ℕ} {joins js ks : List (ℕ × ℕ)} (mates new : List (Option ℕ)) → AreSymmetric n dist
     → length mates ≡ n → IsStage n f dist (forest_of t0 mates) → AreRanked (forest_of t0 mates) (2 ^ 60)
     → IsOpening n f dist (forest_of t0 mates) set (around sets joins p) → IsExpanded f set g → IsFamily g
     → IsSized n t0 → IsSized n t1 → IsSized n t2 → js ≡ joins → new ≡ paired_times mates js p (length js / 2)
@@ -181,6 +182,36 @@ gave_way {n} {f} {g} {dist} {t0} {t1} {t2} {set} {first} {p} {sets} {ss} {ws} {j
       sums = totals_alike n f g (expanded_alike n f g set st.rest.size o.empty ex);
       widens = given_widens n f g dist t0 t1 t2 mates new set sets joins p st o ex op el;
       trees = subst (λ (z : Forest). KeepsTrees x z) back (done (2 ^ 60) small).2;
+    }
+
+-- and of all others none but its children stand otherwise
+pub given_so : {f g : Sets} {dist : ℕ → ℕ → ℕ} {set first p : ℕ} {sets ss ws : List ℕ} {joins ks : List (ℕ × ℕ)}
+    → (t0 t1 t2 : Tree) (mates new : List (Option ℕ)) → IsStage f.size f dist (forest_of t0 mates)
+    → IsOpening f.size f dist (forest_of t0 mates) set (around sets joins p) → IsExpanded f set g → IsFamily g
+    → ss ≡ sets → first ≡ get_or ss 0 0 → Opens (forest_of t0 mates) set first p (forest_of t1 new)
+    → ws ≡ sets → ks ≡ joins → lists_of t2 ≡ walked_times (lists_of t1) ws ks (p / 2)
+    → HasGivenWay f (forest_of t0 mates) set g (forest_of t2 new)
+given_so {f} {g} {dist} {set} {first} {p} {sets} {ss} {ws} {joins} {ks} t0 t1 t2 mates new st o ex fam es is op ew ek walked =
+    let wk : lists_of t2 ≡ walked_times (lists_of t1) sets ks (p / 2) =
+    subst (λ (z : List ℕ). lists_of t2 ≡ walked_times (lists_of t1) z ks (p / 2)) ew walked in
+    let el : lists_of t2 ≡ walked_times (lists_of t1) sets joins (p / 2) =
+    subst (λ (z : List (ℕ × ℕ)). lists_of t2 ≡ walked_times (lists_of t1) sets z (p / 2)) ek wk in
+    let ef : first ≡ get_or sets 0 0 = is ∙ ap (λ (z : List ℕ). get_or z 0 0) es in
+    let at = st.tree.tops set (inner_in o.is_inner) in
+    let half : 2 * (p / 2) < length sets = omega (arith, o.place) in
+    let own = λ (j : ℕ) (h : j < length sets) (e : get_or sets j 0 ≡ set). some_none {P = ⊥} (f.parent (get_or sets j 0)) set
+    (st.rest.laminar.children.child set (get_or sets j 0) at.0 (o.ring.kids j h)).2 (ap f.parent e ∙ at.2) in
+    let after = λ (i : ℕ) (none : (j : ℕ) → j < length sets → get_or sets j 0 ≢ i). (
+    let e : place_in t2.labels.items i ≡ place_in t1.labels.items i =
+    ap (λ (z : Lists). place_in z.labels i) el ∙ walked_others (lists_of t1) sets joins i (p / 2) none half in e) in
+    record {
+      expanded = ex;
+      family = fam;
+      leaves = after set own ∙ op.place_set;
+      others = λ k ne out.
+          let none = λ (j : ℕ) (h : j < length sets) (e : get_or sets j 0 ≡ k). true_false {P = ⊥} (has (f.children set) k)
+          (ap (has (f.children set)) (sym e) ∙ o.ring.kids j h) out in
+          after k none ∙ op.place_others k ne (λ e. none 0 (omega (arith, o.place)) (sym (e ∙ ef)));
     }
 
 -- a step that keeps the lengths

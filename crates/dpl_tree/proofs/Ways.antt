@@ -11,7 +11,7 @@ use Rattle.dpl_tree.specs.declared.tree.Tree.{Tree}
 use Rattle.dpl_tree.specs.steps.Climbs.{IsWay, IsClimbing, IsClimbed, IsReleased}
 use Rattle.dpl_tree.specs.steps.Forests.{Forest, IsExposed, IsClimb, IsBeside, outer, inner}
 use Rattle.dpl_tree.specs.Mates.{IsExit, Joins, loads}
-use Rattle.dpl_tree.specs.Metrics.{IsMetric}
+use Rattle.dpl_tree.specs.Metrics.{AreSymmetric}
 use Rattle.dpl_tree.specs.Stages.{IsStage}
 use Rattle.dpl_tree.specs.Views.{mate_in, forest_of, place_in}
 use Rattle.dpl_tree.proofs.Growing.{outer_in, inner_in, outer_inner_no}
@@ -49,7 +49,7 @@ load_turned n f s t = sum_same (2 * n) _ _ (λ i h. ap (λ z. cond z (f.value i)
 
 -- a turn of the loop
 pub way_turned : (n : ℕ) (f : Sets) (dist : ℕ → ℕ → ℕ) (x : Forest) (begin : ℕ → Option ℕ) (start : ℕ × ℕ) (mates : List (Option ℕ)) (s t ex b : ℕ)
-    → IsMetric n dist → length mates ≡ n → IsStage n f dist x → IsClimbing n f dist x begin start (mate_in mates) (s, t)
+    → AreSymmetric n dist → length mates ≡ n → IsStage n f dist x → IsClimbing n f dist x begin start (mate_in mates) (s, t)
     → ex < n → f.top ex ≡ f.top s → mate_in mates ex ≡ Some b
     → IsClimbing n f dist x begin start (mate_in (set (set (set (set mates ex None) b None) s (Some t)) t (Some s))) (x.above (f.top b), x.entry (f.top b))
 way_turned n f dist x begin start mates s t ex b m len st g hx top w =
@@ -58,7 +58,7 @@ way_turned n f dist x begin start mates s t ex b m len st g hx top w =
     let less : List (Option ℕ) = set (set mates ex None) b None in
     let size : length less ≡ n = length-set (set mates ex None) b None ∙ length-set mates ex None ∙ len in
     climbed n f dist x begin (mate_in mates) (mate_in less) _ start s t ex b st.tree (load_turned n f)
-    m.symmetric g (record { below = hx; top = top; paired = w })
+    m g (record { below = hx; top = top; paired = w })
     (drops_list mates ex b (omega (arith, hx, len)) (omega (arith, hb, len)))
     (joins_list less s t (omega (arith, c.s_range, size)) (omega (arith, c.t_range, size))
     (λ q. c.apart (ap f.top q)))
@@ -88,7 +88,7 @@ way_ended n f dist x begin start mates s t len st g none =
 -- ---- a top is freed
 
 -- the way from the top of t, whose pair was given up
-pub release_begun : (n : ℕ) (f : Sets) (dist : ℕ → ℕ → ℕ) (x : Forest) (less : ℕ → Option ℕ) (t ex b : ℕ) → IsMetric n dist
+pub release_begun : (n : ℕ) (f : Sets) (dist : ℕ → ℕ → ℕ) (x : Forest) (less : ℕ → Option ℕ) (t ex b : ℕ) → AreSymmetric n dist
     → IsStage n f dist x → x.place (f.top t) ≡ outer → IsExit n f x.mate (f.top t) ex b → Drops x.mate ex b less
     → IsWay n f dist x less (x.above (f.top b), x.entry (f.top b))
 release_begun n f dist x less t ex b me st pt w d =
@@ -111,7 +111,7 @@ release_begun n f dist x less t ex b me st pt w d =
         s_outer = over.0;
         apart = λ e. outer_inner_no over.0 (ap x.place (e ∙ entry) ∙ up.0);
         tight = tight;
-        tight_back = load_turned n f _ _ ∙ tight ∙ me.symmetric _ _ link.0 link.1;
+        tight_back = load_turned n f _ _ ∙ tight ∙ me _ _ link.0 link.1;
         pairs = dropped_pairs n f (loads n f) dist x.mate less ex b p w.below w.paired d;
         t_free = λ m u k. elim (cases_eq m b) [
           | inl e ↦ some_none (less m) u k.paired (ap less e ∙ d.second)
@@ -202,7 +202,7 @@ parted {n} {f} {dist} {tree} {mates} {less} {t} {ex} {b} {top} {over} {link} st 
       leads = el ∙ ap (λ z. get_or tree.links.items z (0, 0)) eo;
     }
 
-pub parted_way : {n : ℕ} {f : Sets} {dist : ℕ → ℕ → ℕ} {tree : Tree} {mates less : List (Option ℕ)} {t ex b : ℕ} {link : ℕ × ℕ} → IsMetric n dist
+pub parted_way : {n : ℕ} {f : Sets} {dist : ℕ → ℕ → ℕ} {tree : Tree} {mates less : List (Option ℕ)} {t ex b : ℕ} {link : ℕ × ℕ} → AreSymmetric n dist
     → IsStage n f dist (forest_of tree mates) → place_in tree.labels.items (f.top t) ≡ outer → IsParted n f tree mates less t ex b link
     → IsWay n f dist (forest_of tree mates) (mate_in less) (link.0, link.1)
 parted_way {n} {f} {dist} {tree} {mates} {less} {t} {ex} {b} {link} me st pt p =

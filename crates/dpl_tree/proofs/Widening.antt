@@ -98,7 +98,8 @@ folded_by {n} {f} {g} {dist} {x} {y} {joins} {js} {cs} {ds} {meet} {set} left ri
 
 -- ---- a set that gives way
 
-walked_others : (l : Lists) (sets : List ℕ) (joins : List (ℕ × ℕ)) (i r : ℕ)
+-- what is no child stands after the walk as it did
+pub walked_others : (l : Lists) (sets : List ℕ) (joins : List (ℕ × ℕ)) (i r : ℕ)
     → ((j : ℕ) → j < length sets → get_or sets j 0 ≢ i) → 2 * r < length sets
     → place_in (walked_times l sets joins r).labels i ≡ place_in l.labels i
 walked_others l sets joins i zero none h = refl

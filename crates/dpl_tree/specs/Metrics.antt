@@ -4,6 +4,10 @@ use Rattle.std.specs.Prelude.{◌≡◌, ℕ, ◌+◌, ◌*◌, ◌%◌, ◌^◌
 use Rattle.std.specs.Prelude.{length, slice_index, slice_index_or}
 use Rattle.dpl_tree.specs.declared.metric.Close.{Close}
 
+-- a distance is the same from both of its members
+abbrev pub AreSymmetric : ℕ → (ℕ → ℕ → ℕ) → Type 0
+AreSymmetric n dist = (s t : ℕ) → s < n → t < n → dist s t ≡ dist t s
+
 -- distances: even, symmetric, 0 on the diagonal, and no way over a third member is shorter
 pub record IsMetric (n : ℕ) (dist : ℕ → ℕ → ℕ) : Type 0 where
   pub even : (s t : ℕ) → s < n → t < n → dist s t % 2 ≡ 0

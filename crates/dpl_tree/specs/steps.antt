@@ -4,4 +4,5 @@ pub mod Forests
 pub mod Growth
 pub mod Joins
 pub mod Opened
+pub mod Parted
 pub mod Rounds

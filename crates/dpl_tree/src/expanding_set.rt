@@ -4,18 +4,16 @@ ghost use Rattle.std.specs.Prelude.{◌≡◌, ◌≢◌, ℕ, ◌+◌, ◌*◌,
 ghost use Rattle.std.specs.Prelude.{IfOk};
 ghost use Rattle.dpl_laminar.specs.Storing.{sets_of};
 ghost use Rattle.dpl_tree.specs.steps.Forests.{inner};
-ghost use Rattle.dpl_tree.specs.steps.Growth.{AreListed, IsGrowing, IsNext};
-ghost use Rattle.dpl_tree.specs.Metrics.{dist_of};
+ghost use Rattle.dpl_tree.specs.steps.Growth.{IsStageBy, IsNextBy, HasGivenWay};
 ghost use Rattle.dpl_tree.specs.steps.Opened.{IsOpening, around};
 ghost use Rattle.dpl_tree.specs.Stages.{AreRanked};
-ghost use Rattle.dpl_tree.specs.Views.{forest_of, place_in};
+ghost use Rattle.dpl_tree.specs.Views.{forest_of, place_in, IsSized};
 
 use super::giving_way::{enter, pair_round, walk};
-use super::matching::Matching;
-use super::metric::Metric;
+use super::pairs::exit_of;
 use super::ring::{child_with, place_of, round_from, turned};
 use super::tree::Tree;
-use dpl_laminar::Steps;
+use dpl_laminar::{Family, Steps};
 use std::alloc::{AllocError, Global};
 use std::sync::ledger::Ledger;
 
@@ -31,22 +29,25 @@ pub struct Path {
 /// The way through an inner set.
 pub fn path_through(
     alloc: Global,
-    metric: &Metric,
-    matching: &Matching,
+    family: &Family,
+    mates: &[Option<u32>],
     tree: &Tree,
     set: u32,
 ) -> Result<Path, AllocError>
-    requires growing { IsGrowing metric.now matching.now tree.now }
-    requires above { metric.now.size ≤ set }
+    requires mates { length mates.now ≡ (sets_of family.now).size }
+    requires small { (sets_of family.now).size ≤ 2048 }
+    requires sized { IsSized (sets_of family.now).size tree.now }
+    requires stage { (dist : ℕ → ℕ → ℕ) ×
+        IsStageBy (sets_of family.now) (forest_of tree.now mates.now) dist }
+    requires above { (sets_of family.now).size ≤ set }
     requires is_inner { place_in tree.now.labels.items set ≡ inner }
-    requires empty { (sets_of matching.now.family).value set ≡ 0 }
-    ensures { IfOk result (λ r. IsOpening metric.now.size (sets_of matching.now.family)
-        (dist_of metric.now) (forest_of tree.now matching.now.mates.items) set
-        (around r.sets.items r.joins.items r.place)) }
+    requires empty { (sets_of family.now).value set ≡ 0 }
+    ensures { IfOk result (λ r. (dist : ℕ → ℕ → ℕ) →
+        IsStageBy (sets_of family.now) (forest_of tree.now mates.now) dist →
+        IsOpening (sets_of family.now).size (sets_of family.now) dist
+        (forest_of tree.now mates.now) set (around r.sets.items r.joins.items r.place)) }
 {
-    let _size = metric.size();
-    let family = &matching.family;
-    match matching.exit(set) {
+    match exit_of(family, mates, set) {
         Some((exit, _)) => {
             let (_, entry) = tree.link(set);
             let first = child_with(family, set, entry);
@@ -84,30 +85,35 @@ fn first_set(sets: &[u32]) -> u32
 /// stay in the tree, and the others leave it in pairs.
 pub fn give_way<L: Ledger>(
     alloc: Global,
-    metric: &Metric,
-    matching: &mut Matching,
+    family: &mut Family,
+    mates: &mut [Option<u32>],
     tree: &mut Tree,
     set: u32,
     steps: &mut Steps<L>,
 ) -> Result<(), AllocError>
-    requires growing { IsGrowing metric.now matching.old tree.old }
-    requires small { AreRanked (forest_of tree.old matching.old.mates.items) (2 ^ 60) }
-    requires above { metric.now.size ≤ set }
+    requires mates { length mates.old ≡ (sets_of family.old).size }
+    requires sized { IsSized (sets_of family.old).size tree.old }
+    requires stage { (dist : ℕ → ℕ → ℕ) ×
+        IsStageBy (sets_of family.old) (forest_of tree.old mates.old) dist }
+    requires low { AreRanked (forest_of tree.old mates.old) (2 ^ 60) }
+    requires above { (sets_of family.old).size ≤ set }
     requires is_inner { place_in tree.old.labels.items set ≡ inner }
-    requires empty { (sets_of matching.old.family).value set ≡ 0 }
-    ensures next { IfOk result (λ _.
-        IsNext metric.now matching.old tree.old matching.new tree.new) }
-    ensures lists { IfOk result (λ _. AreListed metric.now matching.new) }
-    ensures sums { IfOk result (λ _. matching.new.sums ≡ matching.old.sums) }
-    ensures finer { IfOk result (λ _. (a b : ℕ) → a < metric.now.size → b < metric.now.size →
-        (sets_of matching.new.family).top a ≡ (sets_of matching.new.family).top b →
-        (sets_of matching.old.family).top a ≡ (sets_of matching.old.family).top b) }
+    requires empty { (sets_of family.old).value set ≡ 0 }
+    ensures next { IfOk result (λ _. (dist : ℕ → ℕ → ℕ) →
+        IsStageBy (sets_of family.old) (forest_of tree.old mates.old) dist →
+        IsNextBy (sets_of family.old) (forest_of tree.old mates.old)
+        (sets_of family.new) (forest_of tree.new mates.new) dist) }
+    ensures given { IfOk result (λ _. HasGivenWay (sets_of family.old)
+        (forest_of tree.old mates.old) set (sets_of family.new) (forest_of tree.new mates.new)) }
+    ensures finer { IfOk result (λ _. (a b : ℕ) → a < (sets_of family.old).size →
+        b < (sets_of family.old).size → (sets_of family.new).top a ≡ (sets_of family.new).top b →
+        (sets_of family.old).top a ≡ (sets_of family.old).top b) }
+    ensures sized { IfOk result (λ _. IsSized (sets_of family.old).size tree.new) }
     ensures steps { steps.new ≤ steps.old + 1 }
 {
-    let _size = metric.size();
-    let path = path_through(alloc, metric, matching, tree, set)?;
-    matching.family.expand(set, steps);
-    pair_round(&mut matching.mates, &path.joins, path.place);
+    let path = path_through(alloc, family, mates, tree, set)?;
+    family.expand(set, steps);
+    pair_round(mates, &path.joins, path.place);
     let first = first_set(&path.sets);
     enter(tree, set, first, path.place as u64);
     walk(tree, &path.sets, &path.joins, path.place);

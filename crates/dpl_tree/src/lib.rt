@@ -8,14 +8,20 @@
 //! load is more than its distance (`IsRest`). Within a stage there are trees as well, whose tops
 //! are outer and inner by turns on each way from a root (`IsStage`).
 //!
-//! A `Matching` is a family with the pairs between its tops and the sums over its members. With
-//! the `Tree` of a stage, which has all of its trees, it is what the steps work on (`IsGrowing`).
+//! The steps read no distance. They work on a family, the pairs between its tops and the `Tree` of
+//! a stage, which has all of its trees. What they promise holds for all distances, the same from
+//! both members, that make these a stage (`IsStageBy`), and a step that takes a join in asks for
+//! some by which it is tight (`AreTightBy`).
 //!
 //! Each step takes one such state to the next and brings the stage nearer to its end
-//! (`IsNext`): `grow` takes a pair into a tree, `fold` makes one set of the ways from two outer
-//! members of one tree, `give_way` takes an inner set of value 0 away. `end_tree` and `join_trees`
-//! give roots their pairs and end their trees (`Ends`), and `shift` changes the values of all tops
-//! of the trees.
+//! (`IsNextBy`): `grow` takes a pair into a tree, `fold` makes one set of the ways from two outer
+//! members of one tree (`HasFolded`), `give_way` takes an inner set of value 0 away
+//! (`HasGivenWay`). `end_tree` and `join_trees` give roots their pairs and end their trees (`Ends`),
+//! and `shift` changes the values of all tops of the trees. `pair_inside` pairs the members inside
+//! the tops once these have their pairs (`IsDone`).
+//!
+//! A `Matching` is a family with the pairs between its tops and the sums over its members, by the
+//! distances of a `Metric` (`IsGrowing`, `IsNext`).
 #![tactic(auto)]
 
 mod change;
@@ -23,6 +29,7 @@ mod expanding_set;
 mod fold_up;
 mod giving_way;
 mod growth;
+mod inside;
 mod matching;
 mod meeting;
 mod metric;
@@ -38,6 +45,7 @@ pub use expanding_set::give_way;
 pub use fold_up::fold;
 pub use giving_way::pair_round;
 pub use growth::grow;
+pub use inside::pair_inside;
 pub use matching::Matching;
 pub use metric::{Close, Metric, Seen};
 pub use pairs::{exit_of, pair};

@@ -5,15 +5,13 @@ ghost use Rattle.std.specs.Prelude.{◌≡◌, ◌≢◌, ℕ, ◌+◌, ◌*◌,
 ghost use Rattle.std.specs.Prelude.{slice_index, slice_index_or, if◌then◌else◌, IfOk, reverse};
 ghost use Rattle.dpl_laminar.specs.Families.{has};
 ghost use Rattle.dpl_laminar.specs.Storing.{sets_of};
-ghost use Rattle.dpl_tree.specs.Metrics.{dist_of};
 ghost use Rattle.dpl_tree.specs.steps.Forests.{outer, inner, free};
 ghost use Rattle.dpl_tree.specs.Mates.{IsExit, loads};
-ghost use Rattle.dpl_tree.specs.steps.Growth.{IsGrowing};
+ghost use Rattle.dpl_tree.specs.steps.Growth.{IsStageBy};
 ghost use Rattle.dpl_tree.specs.steps.Joins.{AreClimbing, ways, tops_from};
-ghost use Rattle.dpl_tree.specs.Views.{mate_in, forest_of, place_in};
+ghost use Rattle.dpl_tree.specs.Views.{mate_in, forest_of, place_in, IsSized};
 
-use super::matching::Matching;
-use super::metric::Metric;
+use super::pairs::exit_of;
 use super::tree::{Label, Tree};
 use dpl_laminar::Family;
 use std::alloc::{AllocError, Global};
@@ -38,22 +36,25 @@ pub struct Climb {
 }
 
 /// The step up from an outer set that has a pair, as each but the root has.
-pub fn step_up(metric: &Metric, matching: &Matching, tree: &Tree, set: u32) -> Climb
-    requires growing { IsGrowing metric.now matching.now tree.now }
+pub fn step_up(family: &Family, mates: &[Option<u32>], tree: &Tree, set: u32) -> Climb
+    requires mates { length mates.now ≡ (sets_of family.now).size }
+    requires small { (sets_of family.now).size ≤ 2048 }
+    requires sized { IsSized (sets_of family.now).size tree.now }
+    requires stage { (dist : ℕ → ℕ → ℕ) ×
+        IsStageBy (sets_of family.now) (forest_of tree.now mates.now) dist }
     requires is_outer { place_in tree.now.labels.items set ≡ outer }
-    requires paired { (m : ℕ) × (t : ℕ) × IsExit metric.now.size (sets_of matching.now.family)
-        (mate_in matching.now.mates.items) set m t }
-    ensures exit { IsExit metric.now.size (sets_of matching.now.family)
-        (mate_in matching.now.mates.items) set result.exit result.mate }
-    ensures above { result.above ≡ (forest_of tree.now matching.now.mates.items).above
-        ((sets_of matching.now.family).top result.mate) }
-    ensures entry { result.entry ≡ (forest_of tree.now matching.now.mates.items).entry
-        ((sets_of matching.now.family).top result.mate) }
+    requires paired { (m : ℕ) × (t : ℕ) × IsExit (sets_of family.now).size (sets_of family.now)
+        (mate_in mates.now) set m t }
+    ensures exit { IsExit (sets_of family.now).size (sets_of family.now) (mate_in mates.now) set
+        result.exit result.mate }
+    ensures above { result.above ≡ (forest_of tree.now mates.now).above
+        ((sets_of family.now).top result.mate) }
+    ensures entry { result.entry ≡ (forest_of tree.now mates.now).entry
+        ((sets_of family.now).top result.mate) }
 {
-    let _size = metric.size();
-    match matching.exit(set) {
+    match exit_of(family, mates, set) {
         Some((exit, mate)) => {
-            let (above, entry) = tree.link(matching.family.tops(mate));
+            let (above, entry) = tree.link(family.tops(mate));
             Climb {
                 exit,
                 mate,
@@ -69,30 +70,31 @@ pub fn step_up(metric: &Metric, matching: &Matching, tree: &Tree, set: u32) -> C
 /// meet.
 pub fn meet(
     alloc: Global,
-    metric: &Metric,
-    matching: &Matching,
+    family: &Family,
+    mates: &[Option<u32>],
     tree: &Tree,
     s: u32,
     t: u32,
 ) -> Result<Meeting, AllocError>
-    requires growing { IsGrowing metric.now matching.now tree.now }
-    requires s { s < metric.now.size }
-    requires t { t < metric.now.size }
-    requires s_outer { place_in tree.now.labels.items
-        ((sets_of matching.now.family).top s) ≡ outer }
-    requires t_outer { place_in tree.now.labels.items
-        ((sets_of matching.now.family).top t) ≡ outer }
-    requires same { slice_index tree.now.trees.items ((sets_of matching.now.family).top s) ≡
-        slice_index tree.now.trees.items ((sets_of matching.now.family).top t) }
-    ensures { IfOk result (λ r. AreClimbing metric.now.size (sets_of matching.now.family)
-        (dist_of metric.now) (forest_of tree.now matching.now.mates.items) (s, t)
-        (ways r.left.items r.right.items r.meet r.meet)) }
+    requires mates { length mates.now ≡ (sets_of family.now).size }
+    requires sized { IsSized (sets_of family.now).size tree.now }
+    requires stage { (dist : ℕ → ℕ → ℕ) ×
+        IsStageBy (sets_of family.now) (forest_of tree.now mates.now) dist }
+    requires s { s < (sets_of family.now).size }
+    requires t { t < (sets_of family.now).size }
+    requires s_outer { place_in tree.now.labels.items ((sets_of family.now).top s) ≡ outer }
+    requires t_outer { place_in tree.now.labels.items ((sets_of family.now).top t) ≡ outer }
+    requires same { slice_index tree.now.trees.items ((sets_of family.now).top s) ≡
+        slice_index tree.now.trees.items ((sets_of family.now).top t) }
+    ensures { IfOk result (λ r. (dist : ℕ → ℕ → ℕ) →
+        IsStageBy (sets_of family.now) (forest_of tree.now mates.now) dist →
+        AreClimbing (sets_of family.now).size (sets_of family.now) dist
+        (forest_of tree.now mates.now) (s, t) (ways r.left.items r.right.items r.meet r.meet)) }
 {
-    let _size = metric.size();
     let mut left = Vec::new(alloc);
     let mut right = Vec::new(alloc);
-    let mut a = matching.family.tops(s);
-    let mut b = matching.family.tops(t);
+    let mut a = family.tops(s);
+    let mut b = family.tops(t);
     'climb: loop {
         if a == b {
             return Ok(Meeting {
@@ -104,15 +106,15 @@ pub fn meet(
         let rank_a = tree.rank(a);
         let rank_b = tree.rank(b);
         if rank_a < rank_b {
-            let up = step_up(metric, matching, tree, b);
+            let up = step_up(family, mates, tree, b);
             right.push((up.exit, up.mate))?;
             right.push((up.entry, up.above))?;
-            b = matching.family.tops(up.above);
+            b = family.tops(up.above);
         } else {
-            let up = step_up(metric, matching, tree, a);
+            let up = step_up(family, mates, tree, a);
             left.push((up.mate, up.exit))?;
             left.push((up.above, up.entry))?;
-            a = matching.family.tops(up.above);
+            a = family.tops(up.above);
         }
     }
 }

@@ -128,6 +128,10 @@ pub record Folds (x : Forest) (children : List ℕ) (meet set : ℕ) (y : Forest
   pub tree_set : y.tree set ≡ x.tree meet
   pub tree_others : (i : ℕ) → i ≢ set → y.tree i ≡ x.tree i
 
+-- but for a set and these children of it all stands as it did
+abbrev pub KeepOthers : List ℕ → ℕ → (ℕ → Place) → (ℕ → Place) → Type 0
+KeepOthers children set old new = (k : ℕ) → k ≢ set → has children k ≡ false → new k ≡ old k
+
 -- an inner set, an outer set, and how many ranks there are between them for what is still to
 -- come
 pub record Gap : Type 0 where

@@ -18,10 +18,10 @@ loop-i-preserved c = λ f.
     ArePairsJoined c.args.ways.now c.args.seats.now mate (dist_in c.args.ways.now c.args.arena.now c.args.joins.now f) (i + 1) c.args.joined.now z in
     elim c.if-i-other.branch [
       | then-i-other+in_ok-join_two w ↦
-          let tied = c.requires.tied.1 i inside in
+          let some = c.requires.some i inside in
           subst P (sym w.joined-is)
-          (pairs_joined c.args.ways.now c.args.arena.now c.args.joins.now c.args.seats.now mate f i c.args.joined.now _ _ tied.join
-          c.requires.nodes c.requires.joins c.requires.seats w.if-i-other.true (c.requires.pairing.range i inside) tied.there
-          (w.in_ok-join_two.ensures tied.join tied.there) (c.loop-i.invariant f))
+          (pairs_joined c.args.ways.now c.args.arena.now c.args.joins.now c.args.seats.now mate f i c.args.joined.now _ _ some.0
+          c.requires.nodes c.requires.joins c.requires.seats w.if-i-other.true (c.requires.pairing.range i inside) some.1
+          (w.in_ok-join_two.ensures some.0 some.1) (c.loop-i.invariant f))
       | else-i-other w ↦ subst P (sym w.joined-is) (pairs_skip _ _ mate _ i _ _ w.if-i-other.false (c.loop-i.invariant f))
     ]
