@@ -1,18 +1,8 @@
 // The loads of edges while walks are laid over them.
 ghost use Rattle.std.specs.Prelude.{◌≡◌, ◌∷◌, [], true, map};
-ghost use Rattle.dpl_sign.specs.Kinds.{is_bond as bond_test};
 ghost use Rattle.dpl_bound.specs.Packed.{AreWithin, HaveRisen};
 
-use dpl_sign::{Edge, Kind, Signed};
-
-fn is_bond(edge: &Edge) -> bool
-    ensures { result ≡ bond_test edge.now.kind }
-{
-    match edge.kind {
-        Kind::Bond => true,
-        _ => false,
-    }
-}
+use dpl_sign::{Edge, Signed};
 
 /// Lays a half weight on one edge, if it has room. A bond takes any, and carries none.
 fn lay_one(graph: &Signed, loads: &mut [u64], half: u64, e: u32) -> bool
@@ -27,7 +17,7 @@ fn lay_one(graph: &Signed, loads: &mut [u64], half: u64, e: u32) -> bool
         return false;
     }
     let edge = &edges[place];
-    if is_bond(edge) {
+    if edge.kind.is_bond() {
         return true;
     }
     let carried = loads[place];

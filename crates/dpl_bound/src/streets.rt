@@ -2,7 +2,7 @@
 
 use crate::parting::{add_at, is_broken, number_at};
 use crate::trees::Trees;
-use dpl_sign::{Cycle, Edge, Kind, Signed};
+use dpl_sign::{Cycle, Edge, Signed};
 use std::alloc::{AllocError as NoMemory, Global};
 
 /// What an edge of weight 1 that carries nothing is long.
@@ -76,13 +76,6 @@ fn lengths_of(alloc: Global, edges: &[Edge], loads: &[u64]) -> Result<Vec<u64>, 
     Ok(lengths)
 }
 
-fn is_clash(edge: &Edge) -> bool {
-    match edge.kind {
-        Kind::Clash => true,
-        _ => false,
-    }
-}
-
 /// What pieces some edges join.
 fn streets_of(
     alloc: Global,
@@ -95,7 +88,7 @@ fn streets_of(
         streets.push(Street {
             p: trees.piece(edge.a),
             q: trees.piece(edge.b),
-            is_clash: is_clash(edge),
+            is_clash: edge.kind.is_clash(),
             is_broken: is_broken(edge, colours),
         })?;
     }

@@ -3,7 +3,7 @@
 
 use dpl_list::Grouped;
 use dpl_refine::{pieces, push_end};
-use dpl_sign::{Edge, Kind, Signed};
+use dpl_sign::{Edge, Signed};
 use std::alloc::{AllocError as NoMemory, Global};
 
 /// How a node hangs below another: over which bond, and how deep. The top of a piece has the depth 1, a node that is not met
@@ -36,20 +36,13 @@ fn tops(alloc: Global, piece: &[u32]) -> Result<Vec<u32>, NoMemory> {
     Ok(found)
 }
 
-fn is_bond(edge: &Edge) -> bool {
-    match edge.kind {
-        Kind::Bond => true,
-        _ => false,
-    }
-}
-
 /// The numbers of the bonds at each node.
 fn bonds_at(alloc: Global, graph: &Signed) -> Result<Grouped<u32>, NoMemory> {
     let mut keys = Vec::new(alloc);
     let mut items = Vec::new(alloc);
     let mut next = 0u32;
     for edge in graph.edges.as_slice() {
-        if is_bond(edge) {
+        if edge.kind.is_bond() {
             push_end(&mut keys, &mut items, edge.a, next, graph.nodes)?;
             push_end(&mut keys, &mut items, edge.b, next, graph.nodes)?;
         }

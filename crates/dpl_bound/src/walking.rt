@@ -1,25 +1,16 @@
 // Which walks are odd walks.
 ghost use Rattle.std.specs.Prelude.{◌≡◌, ◌⊎◌, true, not, IfSome};
 ghost use Rattle.dpl_sign.specs.Colourings.{agree};
-ghost use Rattle.dpl_sign.specs.Kinds.{is_clash as clash_test};
+ghost use Rattle.dpl_sign.specs.Kinds.{is_clash};
 ghost use Rattle.dpl_sign.specs.Walks.{across, leaves, edge_at, IsOddWalk};
 
-use dpl_sign::{Edge, Kind, Signed, Walk};
+use dpl_sign::{Edge, Signed, Walk};
 
 /// The node that a walk has reached, and whether it has passed clashes an odd number of times.
 #[derive(Clone, Copy, Debug)]
 struct Reached {
     node: u32,
     odd: bool,
-}
-
-fn is_clash(kind: Kind) -> bool
-    ensures { result ≡ clash_test kind }
-{
-    match kind {
-        Kind::Clash => true,
-        Kind::Bond | Kind::Stitch => false,
-    }
 }
 
 /// The other end of an edge, if the node is one of its ends.
@@ -41,7 +32,7 @@ fn passed(graph: &Signed, e: u32, at: Reached) -> Option<Reached>
     ensures leaves { IfSome result (λ r. leaves graph.now e at.node ≡ true) }
     ensures node { IfSome result (λ r. r.node ≡ across (edge_at graph.now e) at.node) }
     ensures odd { IfSome result (λ r.
-        r.odd ≡ not (agree (clash_test (edge_at graph.now e).kind) at.odd)) }
+        r.odd ≡ not (agree (is_clash (edge_at graph.now e).kind) at.odd)) }
 {
     let edges = graph.edges.as_slice();
     if edges.len() <= e as usize {
@@ -51,7 +42,7 @@ fn passed(graph: &Signed, e: u32, at: Reached) -> Option<Reached>
     let Some(node) = beyond(edge, at.node) else {
         return None;
     };
-    let odd = is_clash(edge.kind) != at.odd;
+    let odd = edge.kind.is_clash() != at.odd;
     Some(Reached { node, odd })
 }
 

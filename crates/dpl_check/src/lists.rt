@@ -3,7 +3,6 @@ ghost use Rattle.std.specs.Prelude.{◌≡◌, ◌<◌, ◌≤◌, ◌+◌, ◌*
 ghost use Rattle.dpl_cell.specs.Places.{corners_of};
 ghost use Rattle.dpl_rules.specs.Readers.{Reads};
 ghost use Rattle.dpl_sign.specs.Colourings.{colour_of, breaks};
-ghost use Rattle.dpl_sign.specs.Kinds.{is_bond, is_clash};
 ghost use Rattle.dpl_sign.specs.Walks.{across, leaves, edge_at, IsOddWalk};
 ghost use Rattle.dpl_parse.specs.Read.{cycle_of};
 ghost use Rattle.dpl_good.specs.Misses as misses;
@@ -104,15 +103,6 @@ fn end_miss(cycle: u64, start: u32, at: Reached) -> Option<Miss>
     }
 }
 
-fn is_clash_kind(kind: Kind) -> bool
-    ensures { result ≡ is_clash kind }
-{
-    match kind {
-        Kind::Clash => true,
-        Kind::Bond | Kind::Stitch => false,
-    }
-}
-
 fn along(edge: &Edge, at: Reached) -> Option<Reached>
     requires { at.place < 2 ^ 32 }
     ensures { MatchOption result (conditions.meets edge.now at.node ≡ false) (λ r.
@@ -130,7 +120,7 @@ fn along(edge: &Edge, at: Reached) -> Option<Reached>
     Some(Reached {
         place: at.place + 1,
         node,
-        odd: is_clash_kind(edge.kind) != at.odd,
+        odd: edge.kind.is_clash() != at.odd,
     })
 }
 

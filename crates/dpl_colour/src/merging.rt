@@ -42,11 +42,7 @@ fn merge(names: &mut [u32], colours: &mut [bool], next: &[u32], change: Change)
 fn flips(kind: Kind, joined: bool, a: bool, b: bool) -> bool
     ensures { result ≡ differ (differ a b) (differ joined (is_clash kind)) }
 {
-    let clash = match kind {
-        Kind::Clash => true,
-        _ => false,
-    };
-    (a != b) != (joined != clash)
+    (a != b) != (joined != kind.is_clash())
 }
 
 /// A graph, its map, and which of its edges are to be broken.

@@ -1,20 +1,17 @@
 // What a report of a solution says.
-ghost use Rattle.std.specs.Prelude.{◌≡◌, ◌<◌, ◌^◌, length, count_by, IfOk};
-ghost use Rattle.dpl_sign.specs.Kinds.{is_bond, is_clash};
+ghost use Rattle.std.specs.Prelude.{◌≡◌, length, IfOk};
 ghost use Rattle.dpl_report.specs.Plain.{plain_report};
-ghost use Rattle.dpl_good.specs.Conditions.{params_of_options, is_stitch as is_stitch_edge};
-ghost use Rattle.dpl_good.specs.Verdicts.{counts_of_net};
+ghost use Rattle.dpl_good.specs.Conditions.{params_of_options};
 ghost use Rattle.dpl_good.specs.Truths.{SaysTrue};
-ghost use Rattle.dpl_sign.specs.Excess.{excess as excess_of, all_edges};
 ghost use Rattle.dpl_solve.specs.Solved.{IsSolution};
 ghost use Rattle.dpl_core.specs.Reports.{IsTight, CostsLeast};
 
 use dpl_cuts::types::Fragments;
-use dpl_good::{broken_clashes, broken_cuts, masks};
+use dpl_good::{broken_clashes, broken_cuts, counts_of, masks};
 use dpl_list::Items;
 use dpl_options::{Options, same_keep, same_name};
-use dpl_report::{Counts, Params, Report};
-use dpl_sign::{Edge, Kind, Net};
+use dpl_report::{Params, Report};
+use dpl_sign::Net;
 use dpl_solve::Solution;
 use std::alloc::{AllocError as NoMemory, Global};
 
@@ -69,85 +66,4 @@ fn params_of(options: &Options) -> Params
         corner,
         keep: same_keep(options.keep()),
     }
-}
-
-fn counts_of(net: &Net, excess: u64) -> Counts
-    requires { excess ≡ excess_of net.now all_edges }
-    ensures { result ≡ counts_of_net net.now }
-{
-    let edges = net.graph.edges.as_slice();
-    Counts {
-        pieces: u64::from(net.piece_count),
-        fragments: u64::from(net.graph.nodes),
-        bonds: bonds_in(edges),
-        stitches: stitches_in(edges),
-        clashes: clashes_in(edges),
-        excess,
-    }
-}
-
-fn is_bond_kind(kind: Kind) -> bool
-    ensures { result ≡ is_bond kind }
-{
-    match kind {
-        Kind::Bond => true,
-        Kind::Stitch | Kind::Clash => false,
-    }
-}
-
-fn is_clash_kind(kind: Kind) -> bool
-    ensures { result ≡ is_clash kind }
-{
-    match kind {
-        Kind::Clash => true,
-        Kind::Bond | Kind::Stitch => false,
-    }
-}
-
-fn is_stitch(edge: &Edge) -> bool
-    ensures { result ≡ is_stitch_edge edge.now }
-{
-    match edge.kind {
-        Kind::Stitch => true,
-        Kind::Bond | Kind::Clash => false,
-    }
-}
-
-fn bonds_in(edges: &[Edge]) -> u64
-    requires { length edges.now < 2 ^ 30 }
-    ensures { result ≡ count_by (λ e. is_bond e.kind) edges.now }
-{
-    let mut found = 0;
-    for edge in edges {
-        if is_bond_kind(edge.kind) {
-            found += 1;
-        }
-    }
-    found
-}
-
-fn stitches_in(edges: &[Edge]) -> u64
-    requires { length edges.now < 2 ^ 30 }
-    ensures { result ≡ count_by is_stitch_edge edges.now }
-{
-    let mut found = 0;
-    for edge in edges {
-        if is_stitch(edge) {
-            found += 1;
-        }
-    }
-    found
-}
-
-fn clashes_in(edges: &[Edge]) -> u64
-    requires { length edges.now < 2 ^ 30 }
-    ensures { result ≡ count_by (λ e. is_clash e.kind) edges.now }
-{
-    let mut found = 0;
-    for edge in edges {
-        if is_clash_kind(edge.kind) {
-            found += 1;
-        }
-    }
-    found
 }

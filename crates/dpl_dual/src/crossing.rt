@@ -7,7 +7,7 @@ ghost use Rattle.dpl_dual.specs.Duals.{crosses_below, is_crossable};
 
 use crate::crosses::Cross;
 use dpl_map::Map;
-use dpl_sign::{Kind, Signed};
+use dpl_sign::Signed;
 use std::alloc::{AllocError, Global};
 
 /// Whether an edge is a kept stitch or clash.
@@ -20,10 +20,7 @@ fn crossable(map: &Map<'_>, graph: &Signed, edge: u32) -> bool
         return false;
     }
     let at = &graph.edges.as_slice()[edge as usize];
-    match at.kind {
-        Kind::Bond => false,
-        _ => true,
-    }
+    !at.kind.is_bond()
 }
 
 /// The ways between the faces, in the order of the edges.

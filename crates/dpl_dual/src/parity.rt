@@ -8,7 +8,7 @@ ghost use Rattle.dpl_map.specs.Views.{view_of};
 ghost use Rattle.dpl_map.specs.Sides.{IsMap, is_kept, is_odd_face};
 
 use dpl_map::Map;
-use dpl_sign::{Kind, Signed};
+use dpl_sign::Signed;
 use std::alloc::{AllocError, Global};
 
 /// Whether a dart is of a kept clash.
@@ -18,10 +18,7 @@ fn is_clash(map: &Map<'_>, graph: &Signed, dart: u32) -> bool
     ensures { result ≡ (is_kept (view_of map.now) dart
         && is_clash_kind (edge_at graph.now (dart / 2)).kind) }
 {
-    let clash = match graph.edges.as_slice()[(dart / 2) as usize].kind {
-        Kind::Clash => true,
-        _ => false,
-    };
+    let clash = graph.edges.as_slice()[(dart / 2) as usize].kind.is_clash();
     map.kept(dart / 2) & clash
 }
 

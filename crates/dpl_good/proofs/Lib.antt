@@ -16,3 +16,4 @@ pub mod ConditionLaws
 pub mod FirstWrong
 pub mod RefusalLemmas
 pub mod LetterLemmas
+pub mod ExcessLemmas

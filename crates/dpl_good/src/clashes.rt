@@ -4,17 +4,13 @@ ghost use Rattle.dpl_good.specs.Conditions as conditions;
 
 use crate::masking::colour_at;
 use dpl_report::Broken;
-use dpl_sign::{Edge, Kind, broken};
+use dpl_sign::{Edge, broken};
 use std::alloc::{AllocError as NoMemory, Global};
 
 fn is_broken_clash(colours: &[bool], edge: &Edge) -> bool
     ensures { result ≡ conditions.is_broken_clash colours.now edge.now }
 {
-    let is_clash = match edge.kind {
-        Kind::Clash => true,
-        Kind::Bond | Kind::Stitch => false,
-    };
-    is_clash && broken(edge, colour_at(colours, edge.a), colour_at(colours, edge.b))
+    edge.kind.is_clash() && broken(edge, colour_at(colours, edge.a), colour_at(colours, edge.b))
 }
 
 fn push_where(found: &mut Vec<Broken>, holds: bool, broken: Broken) -> Result<(), NoMemory>

@@ -8,6 +8,7 @@
 #![tactic(auto)]
 
 mod clashes;
+mod counting;
 mod goodness;
 mod laws;
 mod masking;
@@ -16,6 +17,7 @@ mod stitches;
 pub mod types;
 
 pub use clashes::broken_clashes;
+pub use counting::counts_of;
 pub use goodness::{
     good_reports_are_true, letters_determine_masks, lines_show_what_is_broken,
     lists_leave_nothing_out, masks_are_of_the_layer, masks_are_whole, nine_facts_make_good,

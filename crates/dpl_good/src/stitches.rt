@@ -6,23 +6,14 @@ ghost use Rattle.dpl_good.specs.Conditions as conditions;
 use crate::masking::colour_at;
 use dpl_cuts::types::Cut;
 use dpl_report::{Broken, Zone};
-use dpl_sign::{Edge, Kind, broken};
+use dpl_sign::{Edge, broken};
 use std::alloc::{AllocError as NoMemory, Global};
-
-fn is_stitch(edge: &Edge) -> bool
-    ensures { result ≡ conditions.is_stitch edge.now }
-{
-    match edge.kind {
-        Kind::Stitch => true,
-        Kind::Bond | Kind::Clash => false,
-    }
-}
 
 fn cuts_after<'a>(edge: &Edge, cuts: &'a [Cut]) -> &'a [Cut]
     ensures { result.now ≡ conditions.cuts_after edge.now cuts.now }
 {
     match cuts.split_first() {
-        Some((_, others)) if is_stitch(edge) => others,
+        Some((_, others)) if edge.kind.is_stitch() => others,
         _ => cuts,
     }
 }
@@ -30,7 +21,7 @@ fn cuts_after<'a>(edge: &Edge, cuts: &'a [Cut]) -> &'a [Cut]
 fn is_broken_stitch(colours: &[bool], edge: &Edge) -> bool
     ensures { result ≡ conditions.is_broken_stitch colours.now edge.now }
 {
-    is_stitch(edge) && broken(edge, colour_at(colours, edge.a), colour_at(colours, edge.b))
+    edge.kind.is_stitch() && broken(edge, colour_at(colours, edge.a), colour_at(colours, edge.b))
 }
 
 fn push_here(

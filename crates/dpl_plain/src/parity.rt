@@ -1,12 +1,11 @@
 // The clashes that faces pass: which faces are odd, and which sets of edges meet the faces.
 ghost use Rattle.std.specs.Prelude.{◌≡◌, ℕ, ◌%◌, ◌==◌, ◌<◌, ◌↔◌, true, length, IfOk, IsTrue};
 ghost use Rattle.dpl_sign.specs.Drawings.{dart_count, is_in as in_set, face_of};
-ghost use Rattle.dpl_sign.specs.Kinds.{is_clash as clash_test};
 ghost use Rattle.dpl_sign.specs.Parity.{passages_on_face as passages_of, is_odd_face as odd_face, is_clash_edge, is_crossable as crossable, MeetsFaces};
 
 use crate::cycles::least;
 use crate::faces::successors;
-use dpl_sign::{Edge, Kind, Net, is_in};
+use dpl_sign::{Net, is_in};
 use std::alloc::{AllocError, Global};
 
 /// The face of a dart, named by its least dart.
@@ -38,15 +37,6 @@ pub fn passages_on_face(
     Ok(count)
 }
 
-fn is_clash(edge: &Edge) -> bool
-    ensures { result ≡ clash_test edge.now.kind }
-{
-    match edge.kind {
-        Kind::Clash => true,
-        _ => false,
-    }
-}
-
 /// The clashes as a set of edges.
 fn clashes(alloc: Global, net: &Net) -> Result<Vec<bool>, AllocError>
     ensures { IfOk result (λ v. (e : ℕ) → e < length net.now.graph.edges →
@@ -54,7 +44,7 @@ fn clashes(alloc: Global, net: &Net) -> Result<Vec<bool>, AllocError>
 {
     let mut test = Vec::new(alloc);
     for edge in 0..net.graph.edges.as_slice().len() as u32 {
-        test.push(is_clash(&net.graph.edges.as_slice()[edge as usize]))?;
+        test.push(net.graph.edges.as_slice()[edge as usize].kind.is_clash())?;
     }
     Ok(test)
 }
@@ -73,11 +63,7 @@ pub fn is_crossable(net: &Net, set: &[bool], edge: u32) -> bool
     requires { edge < length net.now.graph.edges }
     ensures { result ≡ crossable net.now (in_set set.now) edge }
 {
-    let inside = is_in(set, edge);
-    match net.graph.edges.as_slice()[edge as usize].kind {
-        Kind::Bond => false,
-        _ => inside,
-    }
+    is_in(set, edge) & !net.graph.edges.as_slice()[edge as usize].kind.is_bond()
 }
 
 /// Whether all edges chosen are stitches and clashes of the set.

@@ -1,21 +1,11 @@
 // The pieces of a graph, and its components.
 ghost use Rattle.std.specs.Prelude.{◌≡◌, ◌<◌, ℕ, All, IfOk};
-ghost use Rattle.dpl_sign.specs.Kinds.{is_bond as bond_test};
 ghost use Rattle.dpl_refine.specs.Pieces.{bonds_of, ArePieces};
 ghost use Rattle.dpl_refine.specs.Components.{ends_of, AreParts};
 
 use dpl_classes::classes;
-use dpl_sign::{Edge, Kind, Signed};
+use dpl_sign::{Edge, Signed};
 use std::alloc::{AllocError as NoMemory, Global};
-
-fn is_bond(edge: &Edge) -> bool
-    ensures { result ≡ bond_test edge.now.kind }
-{
-    match edge.kind {
-        Kind::Bond => true,
-        _ => false,
-    }
-}
 
 /// The two ends of each bond.
 fn bonds(alloc: Global, edges: &[Edge]) -> Result<Vec<(u32, u32)>, NoMemory>
@@ -23,7 +13,7 @@ fn bonds(alloc: Global, edges: &[Edge]) -> Result<Vec<(u32, u32)>, NoMemory>
 {
     let mut found = Vec::new(alloc);
     for edge in edges {
-        if is_bond(edge) {
+        if edge.kind.is_bond() {
             found.push((edge.a, edge.b))?;
         }
     }

@@ -1,8 +1,8 @@
 // Which nodes and edges make a graph.
 ghost use Rattle.std.specs.Prelude.{◌≡◌, ◌↔◌, IsTrue};
-ghost use Rattle.dpl_sign.specs.Kinds.{IsGraph, EndsBelow, BondsFirst, is_bond as bond_test};
+ghost use Rattle.dpl_sign.specs.Kinds.{IsGraph, EndsBelow, BondsFirst};
 
-use crate::edges::{Edge, Kind};
+use crate::edges::Edge;
 
 fn are_below(nodes: u32, edges: &[Edge]) -> bool
     ensures { IsTrue result ↔ EndsBelow nodes edges.now }
@@ -10,22 +10,13 @@ fn are_below(nodes: u32, edges: &[Edge]) -> bool
     edges.iter().all(|edge| edge.b < nodes)
 }
 
-fn is_bond(edge: &Edge) -> bool
-    ensures { result ≡ bond_test edge.now.kind }
-{
-    match edge.kind {
-        Kind::Bond => true,
-        _ => false,
-    }
-}
-
 /// Whether only bonds stand before a bond.
 fn are_bonds_first(edges: &[Edge]) -> bool
     ensures { IsTrue result ↔ BondsFirst edges.now }
 {
     for next in 1..edges.len() {
-        let here = is_bond(&edges[next]);
-        let before = is_bond(&edges[next - 1]);
+        let here = edges[next].kind.is_bond();
+        let before = edges[next - 1].kind.is_bond();
         if here && !before {
             return false;
         }

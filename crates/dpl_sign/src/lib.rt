@@ -11,6 +11,7 @@ mod darts;
 mod edges;
 mod graph_tests;
 mod graphs;
+mod kinds;
 mod laws;
 mod nets;
 mod order;
