@@ -14,9 +14,6 @@ use Rattle.dpl_layer.proofs.ReasonLemmas.{IsOnce, AllHave, first, later, none_co
 use Rattle.dpl_layer.proofs.RefusalLemmas.{HasKind, kind_of, over_once}
 use Rattle.dpl_core.specs.Refusals.{HasOddNet, report_reasons}
 use Rattle.dpl_core.proofs.RefusalLemmas.{not_odd, report_free, report_kinds, report_once}
-use Rattle.dpl_edit.specs.declared.errors.EditError.{EditError}
-use Rattle.dpl_edit.specs.declared.errors.EditError.TheVariants.{Limit, NoMemory}
-use Rattle.dpl_edit.specs.Errors.{of_layer}
 use Rattle.dpl_edit.specs.Contents.{Refuses, content_reasons, prim_count, cells_in}
 use Rattle.dpl_edit.specs.Optima.{Optimum, IsSolvedContent}
 
@@ -26,23 +23,14 @@ pub content_once : (o : PlainOptions) (prims keep : List Primitive) → IsOnce (
 content_once o prims keep = first_once (content_reasons o prims keep)
     (over_once Counted.Primitives (prim_count prims), report_once o (cells_in prims) (cells_in keep))
 
-pub one_refusal : (o : PlainOptions) (prims keep : List Primitive) (e f : EditError) → Refuses o prims keep e → Refuses o prims keep f → e ≡ f
-one_refusal o prims keep (Limit k c) (Limit l d) a b = ap of_layer (content_once o prims keep (layer.Limit k c) (layer.Limit l d) a b)
-one_refusal o prims keep NoMemory f a b = absurd a
-one_refusal o prims keep (Limit k c) NoMemory a b = absurd b
-
 few_free : (prims : List Primitive) → prim_count prims ≤ 50000 → (e : LayerError) → ¬ IsOver Counted.Primitives (prim_count prims) e
 few_free prims few e p = let more = p.0 in omega (arith, few, more)
 
-content_none : (o : PlainOptions) (prims keep : List Primitive) (s : Optimum) → IsSolvedContent o prims keep s → NoneOf (content_reasons o prims keep)
-content_none o prims keep s h =
+-- a content with an optimum is not refused
+pub content_free : (o : PlainOptions) (prims keep : List Primitive) (s : Optimum) → IsSolvedContent o prims keep s → NoneOf (content_reasons o prims keep)
+content_free o prims keep s h =
     none_cons (IsOver Counted.Primitives (prim_count prims)) (report_reasons o (cells_in prims) (cells_in keep)) (few_free prims h.few)
     (report_free o (cells_in prims) (cells_in keep) s.fragments s.net h.solved.layer.is (not_odd s.net h.solved.small))
-
--- a content with an optimum is not refused
-pub content_free : (o : PlainOptions) (prims keep : List Primitive) (s : Optimum) → IsSolvedContent o prims keep s → (e : EditError) → ¬ Refuses o prims keep e
-content_free o prims keep s h (Limit k c) r = content_none o prims keep s h (layer.Limit k c) r
-content_free o prims keep s h NoMemory r = r
 
 -- what refuses a content is a limit with a number from 2 to 8
 pub content_kind : (o : PlainOptions) (prims keep : List Primitive) (e : LayerError) → FirstOf (content_reasons o prims keep) e → HasKind ⊥ 8 e
@@ -63,7 +51,7 @@ cells_refuse o cells kept e (inr r) = inr (in_front (cells_reasons o cells kept)
 -- too many primitives refuse a content
 pub many_refuse : (o : PlainOptions) (prims keep : List Primitive) (kind count : ℕ) → 50000 < prim_count prims
     → kind ≡ number_of Counted.Primitives → count ≡ shown (prim_count prims)
-    → Refuses o prims keep (Limit kind count)
+    → Refuses o prims keep (layer.Limit kind count)
 many_refuse o prims keep kind count many k c =
     first (IsOver Counted.Primitives (prim_count prims)) (report_reasons o (cells_in prims) (cells_in keep)) (layer.Limit kind count)
     (many, ap (λ z. layer.Limit z count) k ∙ ap (layer.Limit 2) c)
@@ -72,12 +60,10 @@ many_refuse o prims keep kind count many k c =
 pub drawn_refuses : (o : PlainOptions) (prims keep : List Primitive) (e : LayerError)
     → prim_count prims ≤ 50000
     → (e ≡ layer.NoMemory) ⊎ FirstOf (report_reasons o (cells_in prims) (cells_in keep)) e
-    → (of_layer e ≡ NoMemory) ⊎ Refuses o prims keep (of_layer e)
-drawn_refuses o prims keep e few (inl m) = inl (ap of_layer m)
-drawn_refuses o prims keep (layer.Layout c w) few (inr h) = inl refl
-drawn_refuses o prims keep (layer.Limit k c) few (inr h) =
-    inr (later (IsOver Counted.Primitives (prim_count prims)) (report_reasons o (cells_in prims) (cells_in keep)) (layer.Limit k c) (few_free prims few) h)
-drawn_refuses o prims keep layer.NoMemory few (inr h) = inl refl
+    → (e ≡ layer.NoMemory) ⊎ Refuses o prims keep e
+drawn_refuses o prims keep e few (inl m) = inl m
+drawn_refuses o prims keep e few (inr h) =
+    inr (later (IsOver Counted.Primitives (prim_count prims)) (report_reasons o (cells_in prims) (cells_in keep)) e (few_free prims few) h)
 
 -- counts up to the limit are shown as they are
 pub few_shown : (n : ℕ) → shown n ≤ 50000 → n ≤ 50000
@@ -89,9 +75,9 @@ many_shown n h = omega (arith, h)
 
 -- ---- when each answer comes
 
-pub comes_exactly : {T : Type 0} (o : PlainOptions) (prims keep : List Primitive) (solved : T → Optimum) (result : Result T EditError)
-    → IfOk result (λ t. IsSolvedContent o prims keep (solved t)) → IfErr result (λ e. (e ≡ NoMemory) ⊎ Refuses o prims keep e)
-    → (e : EditError) → Refuses o prims keep e → (result ≡ Err e) ⊎ (result ≡ Err NoMemory)
+pub comes_exactly : {T : Type 0} (o : PlainOptions) (prims keep : List Primitive) (solved : T → Optimum) (result : Result T LayerError)
+    → IfOk result (λ t. IsSolvedContent o prims keep (solved t)) → IfErr result (λ e. (e ≡ layer.NoMemory) ⊎ Refuses o prims keep e)
+    → (e : LayerError) → Refuses o prims keep e → (result ≡ Err e) ⊎ (result ≡ Err layer.NoMemory)
 comes_exactly o prims keep solved (Ok t) a b e r = absurd (content_free o prims keep (solved t) a e r)
 comes_exactly o prims keep solved (Err f) a (inl m) e r = inr (ap Err m)
-comes_exactly o prims keep solved (Err f) a (inr q) e r = inl (ap Err (one_refusal o prims keep f e q r))
+comes_exactly o prims keep solved (Err f) a (inr q) e r = inl (ap Err (content_once o prims keep f e q r))

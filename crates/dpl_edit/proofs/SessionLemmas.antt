@@ -4,15 +4,14 @@ use Rattle.dpl_cell.specs.declared.layout.Primitive.{Primitive}
 use Rattle.dpl_cell.specs.declared.rect.Rect.{Rect}
 use Rattle.dpl_options.specs.Options.{PlainOptions}
 use Rattle.dpl_edit.specs.declared.placed.Placed.{Placed}
-use Rattle.dpl_edit.specs.declared.errors.EditError.{EditError}
-use Rattle.dpl_edit.specs.declared.errors.EditError.TheVariants.{Limit, NoMemory}
+use Rattle.dpl_layer.specs.declared.error.LayerError.{LayerError}
+use Rattle.dpl_layer.specs.declared.error.LayerError.TheVariants.{NoMemory}
 use Rattle.dpl_edit.specs.declared.errors.RemoveError.{RemoveError}
-use Rattle.dpl_edit.specs.declared.errors.RemoveError.TheVariants as removing
-use Rattle.dpl_edit.specs.Errors.{of_edit}
+use Rattle.dpl_edit.specs.declared.errors.RemoveError.TheVariants.{NoBox, Refused}
 use Rattle.dpl_edit.specs.Contents.{content, boxes_without, HasBox, Refuses}
 use Rattle.dpl_edit.specs.Optima.{Optimum, IsSolvedContent}
 use Rattle.dpl_edit.specs.Sessions.{State, RefusesRemoval}
-use Rattle.dpl_edit.proofs.RefusalLemmas.{one_refusal, content_free}
+use Rattle.dpl_edit.proofs.RefusalLemmas.{content_once, content_free}
 
 -- two contents that are the same, with the same options and keep layer
 pub record AreOne (o o' : PlainOptions) (prims prims' keep keep' : List Primitive) : Type 0 where
@@ -21,13 +20,13 @@ pub record AreOne (o o' : PlainOptions) (prims prims' keep keep' : List Primitiv
   pub keep_is : keep ≡ keep'
 
 pub refuses_there : (o o' : PlainOptions) (prims prims' keep keep' : List Primitive)
-    → AreOne o o' prims prims' keep keep' → (e : EditError) → Refuses o prims keep e
+    → AreOne o o' prims prims' keep keep' → (e : LayerError) → Refuses o prims keep e
     → Refuses o' prims' keep' e
 refuses_there o o' prims prims' keep keep' h e r =
     subst (λ z. Refuses o' prims' z e) h.keep_is (subst (λ z. Refuses o' z keep e) h.prims_are (subst (λ z. Refuses z prims keep e) h.options r))
 
 pub refuses_here : (o o' : PlainOptions) (prims prims' keep keep' : List Primitive)
-    → AreOne o o' prims prims' keep keep' → (e : EditError) → Refuses o' prims' keep' e
+    → AreOne o o' prims prims' keep keep' → (e : LayerError) → Refuses o' prims' keep' e
     → Refuses o prims keep e
 refuses_here o o' prims prims' keep keep' h e r =
     subst (λ z. Refuses z prims keep e) (sym h.options)
@@ -35,16 +34,16 @@ refuses_here o o' prims prims' keep keep' h e r =
 
 -- where a content has an optimum no refusal applies
 pub ok_free : (o o' : PlainOptions) (prims prims' keep keep' : List Primitive) (s : Optimum)
-    → AreOne o o' prims prims' keep keep' → IsSolvedContent o prims keep s → (e : EditError)
+    → AreOne o o' prims prims' keep keep' → IsSolvedContent o prims keep s → (e : LayerError)
     → ¬ Refuses o' prims' keep' e
 ok_free o o' prims prims' keep keep' s h solved e r = content_free o prims keep s solved e (refuses_here o o' prims prims' keep keep' h e r)
 
 -- where a content is refused this comes, or want of memory
-pub err_comes : (o o' : PlainOptions) (prims prims' keep keep' : List Primitive) (f : EditError)
-    → AreOne o o' prims prims' keep keep' → (f ≡ NoMemory) ⊎ Refuses o prims keep f → (e : EditError)
+pub err_comes : (o o' : PlainOptions) (prims prims' keep keep' : List Primitive) (f : LayerError)
+    → AreOne o o' prims prims' keep keep' → (f ≡ NoMemory) ⊎ Refuses o prims keep f → (e : LayerError)
     → Refuses o' prims' keep' e → (f ≡ e) ⊎ (f ≡ NoMemory)
 err_comes o o' prims prims' keep keep' f h (inl m) e r = inr m
-err_comes o o' prims prims' keep keep' f h (inr q) e r = inl (one_refusal o prims keep f e q (refuses_here o o' prims prims' keep keep' h e r))
+err_comes o o' prims prims' keep keep' f h (inr q) e r = inl (content_once o prims keep f e q (refuses_here o o' prims prims' keep keep' h e r))
 
 abbrev pub placed : ℕ → Rect → Placed
 placed n r = record { number = n; rect = r }
@@ -61,17 +60,15 @@ none_behind prims begun boxes p q = ap (content begun) q ∙ append-nil begun �
 
 -- ---- removals
 
-pub edit_removes : (s : State) (number : ℕ) (e : EditError) → HasBox number s.boxes
+pub edit_removes : (s : State) (number : ℕ) (e : LayerError) → HasBox number s.boxes
     → (e ≡ NoMemory) ⊎ Refuses s.options (content s.begun (boxes_without number s.boxes)) s.keep e
-    → (of_edit e ≡ removing.NoMemory) ⊎ RefusesRemoval s number (of_edit e)
-edit_removes s number e b (inl m) = inl (ap of_edit m)
-edit_removes s number (Limit k c) b (inr h) = inr (b, h)
-edit_removes s number NoMemory b (inr h) = absurd h
+    → (Refused e ≡ Refused NoMemory) ⊎ RefusesRemoval s number (Refused e)
+edit_removes s number e b (inl m) = inl (ap Refused m)
+edit_removes s number e b (inr h) = inr (b, h)
 
--- a limit that the content without the box passes, as an answer of the edit
+-- what refuses the content without the box, as an answer of the edit
 pub removal_edits : (s : State) (number : ℕ) → HasBox number s.boxes → (r : RemoveError)
     → RefusesRemoval s number r
-    → (e : EditError) × (of_edit e ≡ r) × Refuses s.options (content s.begun (boxes_without number s.boxes)) s.keep e
-removal_edits s number b (removing.NoBox n) h = absurd (h.1 b)
-removal_edits s number b (removing.Limit k c) h = (Limit k c, refl, h.1)
-removal_edits s number b removing.NoMemory h = absurd h
+    → (e : LayerError) × (Refused e ≡ r) × Refuses s.options (content s.begun (boxes_without number s.boxes)) s.keep e
+removal_edits s number b (NoBox n) h = absurd (h.1 b)
+removal_edits s number b (Refused e) h = (e, refl, h.1)

@@ -9,12 +9,9 @@ use Rattle.dpl_cell.specs.Layers.{is_cell}
 use Rattle.dpl_options.specs.Options.{PlainOptions}
 use Rattle.dpl_layer.specs.Drawings.{Cells}
 use Rattle.dpl_layer.specs.declared.error.LayerError.{LayerError}
-use Rattle.dpl_layer.specs.declared.error.LayerError.TheVariants as layer
 use Rattle.dpl_layer.specs.Reasons.{FirstOf, IsOver}
 use Rattle.dpl_core.specs.Refusals.{report_reasons}
 use Rattle.dpl_edit.specs.declared.placed.Placed.{Placed}
-use Rattle.dpl_edit.specs.declared.errors.EditError.{EditError}
-use Rattle.dpl_edit.specs.declared.errors.EditError.TheVariants.{Limit, NoMemory}
 
 -- what was there at first, then the boxes that were added and not removed, in the order of adding
 abbrev pub content : List Primitive → List Placed → List Primitive
@@ -49,7 +46,5 @@ content_reasons o prims keep = IsOver Counted.Primitives (prim_count prims)
     ∷ report_reasons o (cells_in prims) (cells_in keep)
 
 -- the content is refused with this answer
-abbrev pub Refuses : PlainOptions → List Primitive → List Primitive → EditError → Type 0
-Refuses o prims keep (Limit kind count) =
-    FirstOf (content_reasons o prims keep) (layer.Limit kind count)
-Refuses o prims keep NoMemory = ⊥
+abbrev pub Refuses : PlainOptions → List Primitive → List Primitive → LayerError → Type 0
+Refuses o prims keep e = FirstOf (content_reasons o prims keep) e

@@ -1,4 +1,3 @@
 pub mod Contents
 pub mod Optima
 pub mod Sessions
-pub mod Errors

@@ -6,9 +6,8 @@ use Rattle.dpl_report.specs.Plain.{PlainReport}
 use Rattle.dpl_layer.specs.declared.drawing.Drawing.{Drawing}
 use Rattle.dpl_core.specs.Reports.{IsReportOfCells}
 use Rattle.dpl_edit.specs.declared.placed.Placed.{Placed}
-use Rattle.dpl_edit.specs.declared.errors.EditError.TheVariants as edit
 use Rattle.dpl_edit.specs.declared.errors.RemoveError.{RemoveError}
-use Rattle.dpl_edit.specs.declared.errors.RemoveError.TheVariants.{NoBox, Limit, NoMemory}
+use Rattle.dpl_edit.specs.declared.errors.RemoveError.TheVariants.{NoBox, Refused}
 use Rattle.dpl_edit.specs.Contents.{content, cells_in, boxes_without, HasBox, Refuses}
 use Rattle.dpl_edit.specs.Optima.{Optimum, IsSolvedContent}
 
@@ -45,13 +44,11 @@ pub record IsEdited (before after : State) (boxes : List Placed) (count : ℕ) :
   pub boxes_are : after.boxes ≡ boxes
   pub count_is : after.count ≡ count
 
--- no box has the number, or the content without it passes a limit
+-- no box has the number, or the content without it is refused
 abbrev pub RefusesRemoval : State → ℕ → RemoveError → Type 0
 RefusesRemoval s number (NoBox n) = (n ≡ number) × ¬ HasBox number s.boxes
-RefusesRemoval s number (Limit kind count) = HasBox number s.boxes
-    × Refuses s.options (content s.begun (boxes_without number s.boxes)) s.keep
-    (edit.Limit kind count)
-RefusesRemoval s number NoMemory = ⊥
+RefusesRemoval s number (Refused e) = HasBox number s.boxes
+    × Refuses s.options (content s.begun (boxes_without number s.boxes)) s.keep e
 
 -- a report of the content, good and tight, that shows the session's masks
 pub record IsReportOf (s : State) (r : PlainReport) : Type 0 where

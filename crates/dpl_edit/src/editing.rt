@@ -4,10 +4,9 @@ ghost use Rattle.dpl_layer.specs.Drawings.{Cells};
 ghost use Rattle.dpl_edit.specs.Contents.{content, Refuses};
 ghost use Rattle.dpl_edit.specs.Optima.{IsSolved, IsSomeOptimum, IsSolvedContent, AreSolved, KeepMasks, solved_of};
 
-use crate::errors::EditError;
 use crate::placed::Placed;
 use crate::solved::{Solved, solve_content};
-use dpl_layer::Drawing;
+use dpl_layer::{Drawing, LayerError};
 use dpl_options::Options;
 use dpl_sign::cost;
 use dpl_solve::Solution;
@@ -70,7 +69,7 @@ pub fn solve_edit(
     boxes: &[Placed],
     options: &Options,
     old: &Solved,
-) -> Result<Solved, EditError>
+) -> Result<Solved, LayerError>
     requires old { IsSomeOptimum options.now (solved_of old.now) }
     requires known { AreSolved old.now.parts.items }
     ensures same { drawing.new.layer.prims ≡ drawing.old.layer.prims }
@@ -79,7 +78,7 @@ pub fn solve_edit(
         (content drawing.old.layer.prims boxes.now) drawing.old.keep.prims (solved_of s)) }
     ensures parts { IfOk result (λ s. AreSolved s.parts.items) }
     ensures kept { IfOk result (λ s. KeepMasks (solved_of old.now) (solved_of s)) }
-    ensures refused { IfErr result (λ e. (e ≡ EditError.NoMemory) ⊎ Refuses options.now
+    ensures refused { IfErr result (λ e. (e ≡ LayerError.NoMemory) ⊎ Refuses options.now
         (content drawing.old.layer.prims boxes.now) drawing.old.keep.prims e) }
 {
     let old_rects = old.layer.fragments.rects.as_slice();
@@ -90,6 +89,6 @@ pub fn solve_edit(
     };
     match keep_masks(alloc, options, old, solved) {
         Ok(solved) => Ok(solved),
-        Err(_) => Err(EditError::NoMemory),
+        Err(_) => Err(LayerError::NoMemory),
     }
 }

@@ -17,7 +17,7 @@ mod sessions;
 mod solved;
 mod weighing;
 
-pub use errors::{EditError, RemoveError};
+pub use errors::RemoveError;
 pub use laws::masks_are_kept;
 pub use placed::Placed;
 pub use sessions::Session;

@@ -7,12 +7,12 @@ ghost use Rattle.dpl_edit.specs.Sessions.{IsReportOf, IsBegun, IsEdited, Refuses
 
 use crate::contents::{has_box, with_box, without_box};
 use crate::editing::solve_edit;
-use crate::errors::{EditError, RemoveError, as_removal};
+use crate::errors::RemoveError;
 use crate::placed::Placed;
 use crate::solved::{Solved, solve_content};
 use dpl_cell::Rect;
 use dpl_core::{report_is_of_the_layer, report_of};
-use dpl_layer::Drawing;
+use dpl_layer::{Drawing, LayerError};
 use dpl_options::Options;
 use dpl_report::Report;
 use dpl_sum::copy_solution;
@@ -56,13 +56,13 @@ impl Model for Session {
 
 impl Session {
     /// A session that begins with a drawing, and no box added.
-    pub fn new(alloc: Global, drawing: Drawing, options: Options) -> Result<Session, EditError>
+    pub fn new(alloc: Global, drawing: Drawing, options: Options) -> Result<Session, LayerError>
         ensures begun { IfOk result (IsBegun options drawing) }
-        ensures refused { (e : EditError) → result ≡ Err e → (e ≡ EditError.NoMemory) ⊎
+        ensures refused { (e : LayerError) → result ≡ Err e → (e ≡ LayerError.NoMemory) ⊎
             Refuses options drawing.layer.prims drawing.keep.prims e }
-        ensures exact { (e : EditError) →
+        ensures exact { (e : LayerError) →
             Refuses options drawing.layer.prims drawing.keep.prims e →
-            (result ≡ Err e) ⊎ (result ≡ Err EditError.NoMemory) }
+            (result ≡ Err e) ⊎ (result ≡ Err LayerError.NoMemory) }
     {
         let mut drawing = drawing;
         let boxes = Vec::new(alloc);
@@ -79,25 +79,25 @@ impl Session {
     }
 
     /// Adds a box to the chosen layer, and gives its number: the count of the boxes that were added before.
-    pub fn add(&mut self, alloc: Global, rect: Rect) -> Result<u64, EditError>
+    pub fn add(&mut self, alloc: Global, rect: Rect) -> Result<u64, LayerError>
         requires { self.old.count < 2 ^ 32 }
         ensures number { IfOk result (λ n. n ≡ self.old.count) }
         ensures added { OnOk result (IsEdited self.old self.new
             (self.old.boxes ++ record { number = self.old.count; rect = rect } ∷ [])
             (self.old.count + 1)) }
         ensures kept { OnOk result (KeepMasks self.old.solved self.new.solved) }
-        ensures refused { (e : EditError) → result ≡ Err e → (self.new ≡ self.old) ×
-            ((e ≡ EditError.NoMemory) ⊎ Refuses self.old.options (content self.old.begun
+        ensures refused { (e : LayerError) → result ≡ Err e → (self.new ≡ self.old) ×
+            ((e ≡ LayerError.NoMemory) ⊎ Refuses self.old.options (content self.old.begun
             (self.old.boxes ++ record { number = self.old.count; rect = rect } ∷ []))
             self.old.keep e) }
-        ensures exact { (e : EditError) → Refuses self.old.options (content self.old.begun
+        ensures exact { (e : LayerError) → Refuses self.old.options (content self.old.begun
             (self.old.boxes ++ record { number = self.old.count; rect = rect } ∷ []))
-            self.old.keep e → (result ≡ Err e) ⊎ (result ≡ Err EditError.NoMemory) }
+            self.old.keep e → (result ≡ Err e) ⊎ (result ≡ Err LayerError.NoMemory) }
     {
         let number = self.count;
         let boxes = match with_box(alloc, &self.boxes, Placed { number, rect }) {
             Ok(boxes) => boxes,
-            Err(_) => return Err(EditError::NoMemory),
+            Err(_) => return Err(LayerError::NoMemory),
         };
         match solve_edit(
             alloc,
@@ -122,16 +122,16 @@ impl Session {
             IsEdited self.old self.new (boxes_without number self.old.boxes) self.old.count) }
         ensures kept { OnOk result (KeepMasks self.old.solved self.new.solved) }
         ensures refused { (e : RemoveError) → result ≡ Err e → (self.new ≡ self.old) ×
-            ((e ≡ RemoveError.NoMemory) ⊎ RefusesRemoval self.old number e) }
+            ((e ≡ RemoveError.Refused LayerError.NoMemory) ⊎ RefusesRemoval self.old number e) }
         ensures exact { (e : RemoveError) → RefusesRemoval self.old number e →
-            (result ≡ Err e) ⊎ (result ≡ Err RemoveError.NoMemory) }
+            (result ≡ Err e) ⊎ (result ≡ Err (RemoveError.Refused LayerError.NoMemory)) }
     {
         if !has_box(&self.boxes, number) {
             return Err(RemoveError::NoBox(number));
         }
         let boxes = match without_box(alloc, &self.boxes, number) {
             Ok(boxes) => boxes,
-            Err(_) => return Err(RemoveError::NoMemory),
+            Err(_) => return Err(RemoveError::Refused(LayerError::NoMemory)),
         };
         match solve_edit(
             alloc,
@@ -145,7 +145,7 @@ impl Session {
                 self.solved = solved;
                 Ok(())
             }
-            Err(error) => Err(as_removal(error)),
+            Err(error) => Err(RemoveError::Refused(error)),
         }
     }
 

@@ -9,7 +9,6 @@ ghost use Rattle.dpl_edit.specs.Contents.{content, Refuses};
 ghost use Rattle.dpl_edit.specs.Optima.{IsSolved, IsSolvedContent, AreSolved, AreKnown, solved_of};
 
 use crate::contents::push_boxes;
-use crate::errors::{EditError, as_edit};
 use crate::placed::Placed;
 use crate::recalling::places;
 use crate::weighing::weigh;
@@ -100,24 +99,24 @@ fn solve_few(
     options: &Options,
     old_rects: &[Rect],
     known: &[SolvedPart],
-) -> Result<Solved, EditError>
+) -> Result<Solved, LayerError>
     requires { AreKnown old_rects.now known.now }
     ensures solved { IfOk result (λ s. IsSolvedContent options.now drawing.now.layer.prims
         drawing.now.keep.prims (solved_of s)) }
     ensures parts { IfOk result (λ s. AreSolved s.parts.items) }
-    ensures refused { IfErr result (λ e. (e ≡ EditError.NoMemory) ⊎
+    ensures refused { IfErr result (λ e. (e ≡ LayerError.NoMemory) ⊎
         Refuses options.now drawing.now.layer.prims drawing.now.keep.prims e) }
 {
     let count = weigh(drawing.layer.prims.as_slice());
     if count > Counted::Primitives.most() {
-        return Err(EditError::Limit {
+        return Err(LayerError::Limit {
             kind: Counted::Primitives.number(),
             count,
         });
     }
     match solve_drawing(alloc, drawing, options, old_rects, known) {
         Ok(solved) => Ok(solved),
-        Err(error) => Err(as_edit(error)),
+        Err(error) => Err(error),
     }
 }
 
@@ -149,7 +148,7 @@ fn solve_together(
     options: &Options,
     old_rects: &[Rect],
     known: &[SolvedPart],
-) -> Result<Solved, EditError>
+) -> Result<Solved, LayerError>
     requires { AreKnown old_rects.now known.now }
     ensures kept { take (length drawing.old.layer.prims) drawing.new.layer.prims
         ≡ drawing.old.layer.prims }
@@ -157,12 +156,12 @@ fn solve_together(
     ensures solved { IfOk result (λ s. IsSolvedContent options.now
         (content drawing.old.layer.prims boxes.now) drawing.old.keep.prims (solved_of s)) }
     ensures parts { IfOk result (λ s. AreSolved s.parts.items) }
-    ensures refused { IfErr result (λ e. (e ≡ EditError.NoMemory) ⊎ Refuses options.now
+    ensures refused { IfErr result (λ e. (e ≡ LayerError.NoMemory) ⊎ Refuses options.now
         (content drawing.old.layer.prims boxes.now) drawing.old.keep.prims e) }
 {
     match put_behind(alloc, &mut drawing.layer, boxes) {
         Ok(()) => solve_few(alloc, drawing, options, old_rects, known),
-        Err(_) => Err(EditError::NoMemory),
+        Err(_) => Err(LayerError::NoMemory),
     }
 }
 
@@ -175,14 +174,14 @@ pub fn solve_content(
     options: &Options,
     old_rects: &[Rect],
     known: &[SolvedPart],
-) -> Result<Solved, EditError>
+) -> Result<Solved, LayerError>
     requires { AreKnown old_rects.now known.now }
     ensures same { drawing.new.layer.prims ≡ drawing.old.layer.prims }
     ensures keep { drawing.new.keep.prims ≡ drawing.old.keep.prims }
     ensures solved { IfOk result (λ s. IsSolvedContent options.now
         (content drawing.old.layer.prims boxes.now) drawing.old.keep.prims (solved_of s)) }
     ensures parts { IfOk result (λ s. AreSolved s.parts.items) }
-    ensures refused { IfErr result (λ e. (e ≡ EditError.NoMemory) ⊎ Refuses options.now
+    ensures refused { IfErr result (λ e. (e ≡ LayerError.NoMemory) ⊎ Refuses options.now
         (content drawing.old.layer.prims boxes.now) drawing.old.keep.prims e) }
 {
     let count = drawing.layer.prims.as_slice().len();

@@ -1,7 +1,7 @@
 use crate::asked::asked;
 use dpl_cell::{Layout, Point, Points, Prim, Rect};
-use dpl_edit::{EditError, Session};
-use dpl_layer::Drawing;
+use dpl_edit::Session;
+use dpl_layer::{Drawing, LayerError};
 use dpl_list::Items;
 use dpl_report::print;
 use std::alloc::Global;
@@ -110,9 +110,9 @@ fn are(fragments: u64, cost: u64, bound: u64) -> Option<Figures> {
 }
 
 /// Why one box more is not taken, nothing where it is.
-fn add(alloc: Global, session: &mut Session, rect: Rect) -> Option<EditError> {
+fn add(alloc: Global, session: &mut Session, rect: Rect) -> Option<LayerError> {
     if session.count() > 100 {
-        return Some(EditError::NoMemory);
+        return Some(LayerError::NoMemory);
     }
     session.add(alloc, rect).err()
 }
@@ -286,7 +286,7 @@ fn shows(alloc: Global, session: &Session, wanted: &[u8]) -> bool {
 }
 
 /// Why a full layer takes no box, whether its report stays, and how many boxes were numbered.
-fn refusal(alloc: Global) -> Option<(EditError, bool, u64)> {
+fn refusal(alloc: Global) -> Option<(LayerError, bool, u64)> {
     let mut session = full_layer(alloc)?;
     let before = text(alloc, &session)?;
     let error = add(alloc, &mut session, Rect::new(300, 0, 500, 200)?)?;
@@ -296,7 +296,7 @@ fn refusal(alloc: Global) -> Option<(EditError, bool, u64)> {
 
 #[test]
 fn a_primitive_too_many(rt: HostRuntime) {
-    let limit = EditError::Limit {
+    let limit = LayerError::Limit {
         kind: 2,
         count: 50_001,
     };
@@ -338,7 +338,7 @@ fn copies(alloc: Global, count: u32) -> Option<Vec<Prim>> {
 }
 
 /// Why the second of two boxes is not taken, where the first is.
-fn second_refusal(alloc: Global, session: Option<Session>) -> Option<EditError> {
+fn second_refusal(alloc: Global, session: Option<Session>) -> Option<LayerError> {
     let mut session = session?;
     if add(alloc, &mut session, Rect::new(300, 0, 500, 200)?).is_some() {
         return None;
@@ -350,7 +350,7 @@ fn second_refusal(alloc: Global, session: Option<Session>) -> Option<EditError> 
 #[test]
 fn room_for_one_box_more(rt: HostRuntime) -> Result<(), Fail> {
     let alloc = rt.alloc();
-    let wanted = Some(EditError::Limit {
+    let wanted = Some(LayerError::Limit {
         kind: 2,
         count: 50_001,
     });

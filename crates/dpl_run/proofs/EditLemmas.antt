@@ -12,8 +12,6 @@ use Rattle.dpl_layer.specs.Drawings.{IsDrawingOf, drawing_reasons}
 use Rattle.dpl_layer.proofs.ReasonLemmas.{IsOnce, first_has}
 use Rattle.dpl_layer.proofs.RefusalLemmas.{HasKind, drawing_kinds, one_drawing_refusal}
 use Rattle.dpl_edit.specs.declared.placed.Placed.{Placed}
-use Rattle.dpl_edit.specs.declared.errors.EditError.{EditError}
-use Rattle.dpl_edit.specs.declared.errors.EditError.TheVariants as edit
 use Rattle.dpl_edit.specs.declared.errors.RemoveError.{RemoveError}
 use Rattle.dpl_edit.specs.declared.errors.RemoveError.TheVariants as removal
 use Rattle.dpl_edit.specs.Contents.{content, boxes_without, content_reasons, HasBox, Refuses}
@@ -33,7 +31,7 @@ use Rattle.dpl_run.specs.due.Edit.{Edits, begun_with, edits_of, edited, edits_re
 use Rattle.dpl_run.specs.due.Edit.StopsAt.{missing, over}
 use Rattle.dpl_run.specs.due.Edit.IsScriptDue.{bad_line, applied}
 use Rattle.dpl_run.specs.due.Edit.IsEditDue.{unread, too_much, begun}
-use Rattle.dpl_run.specs.Errors.{status_of, of_edit, of_removal, of_script}
+use Rattle.dpl_run.specs.Errors.{status_of, of_removal, of_script}
 use Rattle.dpl_run.specs.Telling.{IsWorked}
 use Rattle.dpl_run.proofs.EndLemmas.{AllEnd, Ends, error_ends}
 use Rattle.dpl_run.proofs.MadeLemmas.{work_limit}
@@ -134,34 +132,26 @@ of_edited old new boxes count e = rw (e.options, e.begun, e.keep, e.boxes_are, e
 pub of_begun : (o : PlainOptions) (d : Drawing) (s : State) → IsBegun o d s → edits_of s ≡ begun_with o d
 of_begun o d s b = rw (b.options, b.begun, b.keep, b.boxes, b.count) refl
 
--- a content of which no limit refuses it is not refused
-limits_free : (o : PlainOptions) (prims keep : List Primitive) → ((k n : ℕ) → ¬ Refuses o prims keep (edit.Limit k n)) → NoneOf (content_reasons o prims keep)
-limits_free o prims keep none e r = by_kind e r (content_kind o prims keep e r) where
-  by_kind : (e : LayerError) → FirstOf (content_reasons o prims keep) e → HasKind ⊥ 8 e → ⊥
-  by_kind (refusal.Limit k n) q h = none k n q
-  by_kind (refusal.Layout command what) q h = h
-  by_kind refusal.NoMemory q h = h
-
 -- a content that was taken is not refused
-taken_within : {T : Type 0} (o : PlainOptions) (prims keep : List Primitive) (result : Result T EditError) (v : T) → result ≡ Ok v
-    → ((e : EditError) → Refuses o prims keep e → (result ≡ Err e) ⊎ (result ≡ Err edit.NoMemory)) → NoneOf (content_reasons o prims keep)
-taken_within o prims keep result v is exact = limits_free o prims keep (λ k n p. elim (exact (edit.Limit k n) p) [
+taken_within : {T : Type 0} (o : PlainOptions) (prims keep : List Primitive) (result : Result T LayerError) (v : T) → result ≡ Ok v
+    → ((e : LayerError) → Refuses o prims keep e → (result ≡ Err e) ⊎ (result ≡ Err refusal.NoMemory)) → NoneOf (content_reasons o prims keep)
+taken_within o prims keep result v is exact = λ e p. elim (exact e p) [
   | inl a ↦ absurd (cc)
   | inr a ↦ absurd (cc)
-])
+]
 
 -- a session that was begun passes no limit
-pub begun_within : {T : Type 0} (o : PlainOptions) (d : Drawing) (result : Result T EditError) (v : T) → result ≡ Ok v
-    → ((e : EditError) → Refuses o d.layer.prims d.keep.prims e → (result ≡ Err e) ⊎ (result ≡ Err edit.NoMemory)) → NoneOf (edits_reasons (begun_with o d))
+pub begun_within : {T : Type 0} (o : PlainOptions) (d : Drawing) (result : Result T LayerError) (v : T) → result ≡ Ok v
+    → ((e : LayerError) → Refuses o d.layer.prims d.keep.prims e → (result ≡ Err e) ⊎ (result ≡ Err refusal.NoMemory)) → NoneOf (edits_reasons (begun_with o d))
 begun_within o d result v is exact =
     taken_within o (d.layer.prims ++ []) d.keep.prims result v is
-    (subst (λ z. (e : EditError) → Refuses o z d.keep.prims e → (result ≡ Err e) ⊎ (result ≡ Err edit.NoMemory))
+    (subst (λ z. (e : LayerError) → Refuses o z d.keep.prims e → (result ≡ Err e) ⊎ (result ≡ Err refusal.NoMemory))
     (sym (append-nil d.layer.prims)) exact)
 
 -- a line is taken where its box was added
-pub added_goes_on : {T : Type 0} (s : State) (rect : Rect) (result : Result T EditError) (v : T) → result ≡ Ok v
-    → ((e : EditError) → Refuses s.options (content s.begun (s.boxes ++ record { number = s.count; rect = rect } ∷ []))
-    s.keep e → (result ≡ Err e) ⊎ (result ≡ Err edit.NoMemory))
+pub added_goes_on : {T : Type 0} (s : State) (rect : Rect) (result : Result T LayerError) (v : T) → result ≡ Ok v
+    → ((e : LayerError) → Refuses s.options (content s.begun (s.boxes ++ record { number = s.count; rect = rect } ∷ []))
+    s.keep e → (result ≡ Err e) ⊎ (result ≡ Err refusal.NoMemory))
     → IsTaken (edits_of s) (Add rect)
 added_goes_on s rect result v is exact = record {
   there = λ p. p;
@@ -169,38 +159,34 @@ added_goes_on s rect result v is exact = record {
 }
 
 -- the script stops at a line whose box is refused, but for want of memory
-pub add_stops : (s : State) (rect : Rect) (e : EditError) (status : Status) → status ≡ of_edit e
-    → (e ≡ edit.NoMemory) ⊎ Refuses s.options (content s.begun (s.boxes ++ record { number = s.count; rect = rect } ∷ [])) s.keep e
+pub add_stops : (s : State) (rect : Rect) (e : LayerError) (status : Status) → status ≡ status_of e
+    → (e ≡ refusal.NoMemory) ⊎ Refuses s.options (content s.begun (s.boxes ++ record { number = s.count; rect = rect } ∷ [])) s.keep e
     → (n : ℕ) → (status ≡ NoMemory) ⊎ StopsAt (edits_of s) n (Add rect) status []
-add_stops s rect (edit.Limit k c) status is (inl m) n = absurd (cc)
-add_stops s rect edit.NoMemory status is h n = inl is
-add_stops s rect (edit.Limit k c) status is (inr r) n = inr (subst (λ z. StopsAt (edits_of s) n (Add rect) z []) (sym is) (over (refusal.Limit k c) (λ p. p) r))
+add_stops s rect e status is (inl m) n = inl (is ∙ ap status_of m)
+add_stops s rect e status is (inr r) n = inr (subst (λ z. StopsAt (edits_of s) n (Add rect) z []) (sym is) (over e (λ p. p) r))
 
 removed_within : {T : Type 0} (s : State) (number : ℕ) (result : Result T RemoveError) (v : T) → result ≡ Ok v
     → HasBox number s.boxes
-    → ((e : RemoveError) → RefusesRemoval s number e → (result ≡ Err e) ⊎ (result ≡ Err removal.NoMemory))
+    → ((e : RemoveError) → RefusesRemoval s number e → (result ≡ Err e) ⊎ (result ≡ Err (removal.Refused refusal.NoMemory)))
     → NoneOf (content_reasons s.options (content s.begun (boxes_without number s.boxes)) s.keep)
-removed_within s number result v is there exact =
-    limits_free s.options (content s.begun (boxes_without number s.boxes)) s.keep (λ k n p. elim (exact (removal.Limit k n) (there, p)) [
-      | inl a ↦ absurd (cc)
-      | inr a ↦ absurd (cc)
-    ])
+removed_within s number result v is there exact = λ e p. elim (exact (removal.Refused e) (there, p)) [
+  | inl a ↦ absurd (cc)
+  | inr a ↦ absurd (cc)
+]
 
 -- a line is taken where its box was there and was removed
 pub removed_goes_on : {T : Type 0} (s : State) (number : ℕ) (result : Result T RemoveError) (v : T) → result ≡ Ok v → HasBox number s.boxes
-    → ((e : RemoveError) → RefusesRemoval s number e → (result ≡ Err e) ⊎ (result ≡ Err removal.NoMemory)) → IsTaken (edits_of s) (Remove number)
+    → ((e : RemoveError) → RefusesRemoval s number e → (result ≡ Err e) ⊎ (result ≡ Err (removal.Refused refusal.NoMemory))) → IsTaken (edits_of s) (Remove number)
 removed_goes_on s number result v is there exact = record { there = λ p. p there; within = removed_within s number result v is there exact }
 
 -- the script stops at a line whose removal is refused, but for want of memory
 pub removal_stops : (s : State) (number n : ℕ) (e : RemoveError) (status : Status) → status ≡ of_removal n e
-    → (e ≡ removal.NoMemory) ⊎ RefusesRemoval s number e
+    → (e ≡ removal.Refused refusal.NoMemory) ⊎ RefusesRemoval s number e
     → (status ≡ NoMemory) ⊎ StopsAt (edits_of s) n (Remove number) status []
-removal_stops s number n (removal.NoBox m) status is (inl h) = absurd (cc)
-removal_stops s number n (removal.Limit k c) status is (inl h) = absurd (cc)
-removal_stops s number n removal.NoMemory status is h = inl is
+removal_stops s number n e status is (inl m) = inl (is ∙ ap (of_removal n) m)
 removal_stops s number n (removal.NoBox m) status is (inr r) = inr (subst (λ z. StopsAt (edits_of s) n (Remove number) z []) (sym is) (missing r.1))
-removal_stops s number n (removal.Limit k c) status is (inr r) =
-    inr (subst (λ z. StopsAt (edits_of s) n (Remove number) z []) (sym is) (over (refusal.Limit k c) (λ p. p r.0) r.1))
+removal_stops s number n (removal.Refused e) status is (inr r) =
+    inr (subst (λ z. StopsAt (edits_of s) n (Remove number) z []) (sym is) (over e (λ p. p r.0) r.1))
 
 -- ---- the lines in order
 
@@ -270,9 +256,9 @@ worked_bare_at Due a s x h is none = subst (λ z. IsWorked Due z x) (sym is) (su
 
 -- a session that was begun is followed
 pub begun_worked : {T : Type 0} (o p : PlainOptions) (text second : List ℕ) (d : Drawing)
-    → (result : Result T EditError) (v : T) (s : State) (a : Status) (x : List ℕ) → p ≡ o
+    → (result : Result T LayerError) (v : T) (s : State) (a : Status) (x : List ℕ) → p ≡ o
     → IsDrawingOf o text d → result ≡ Ok v
-    → ((e : EditError) → Refuses p d.layer.prims d.keep.prims e → (result ≡ Err e) ⊎ (result ≡ Err edit.NoMemory))
+    → ((e : LayerError) → Refuses p d.layer.prims d.keep.prims e → (result ≡ Err e) ⊎ (result ≡ Err refusal.NoMemory))
     → IsBegun p d s → IsWorked (IsScriptDue (edits_of s) second) a x → IsWorked (IsEditDue o text second) a x
 begun_worked o p text second d result v s a x same is ok exact b w =
     let within : NoneOf (edits_reasons (begun_with o d)) = subst (λ z. NoneOf (edits_reasons (begun_with z d))) same (begun_within p d result v ok exact) in
@@ -280,21 +266,19 @@ begun_worked o p text second d result v s a x same is ok exact b w =
     worked_as (IsScriptDue (edits_of s) second) (IsEditDue o text second)
     (λ c y due. begun d is within c y (subst (λ z. IsScriptDue z second c y) (of_begun o d s begins) due)) a x w
 
-too_much_due : (o : PlainOptions) (text second : List ℕ) (d : Drawing) (e : EditError) (a : Status) (x : List ℕ)
-    → IsDrawingOf o text d → (e ≡ edit.NoMemory) ⊎ Refuses o d.layer.prims d.keep.prims e → a ≡ of_edit e
+too_much_due : (o : PlainOptions) (text second : List ℕ) (d : Drawing) (e : LayerError) (a : Status) (x : List ℕ)
+    → IsDrawingOf o text d → (e ≡ refusal.NoMemory) ⊎ Refuses o d.layer.prims d.keep.prims e → a ≡ status_of e
     → x ≡ [] → IsWorked (IsEditDue o text second) a x
-too_much_due o text second d (edit.Limit k n) a x is (inl m) e none = absurd (cc)
-too_much_due o text second d edit.NoMemory a x is h e none = worked_bare_at (IsEditDue o text second) NoMemory a x (inl refl) e none
-too_much_due o text second d (edit.Limit k n) a x is (inr r) e none =
-    worked_bare_at (IsEditDue o text second) (Limit k n) a x
-    (inr (too_much d is (refusal.Limit k n) (subst (λ z. Refuses o z d.keep.prims (edit.Limit k n)) (sym (append-nil d.layer.prims)) r))) e
-    none
+too_much_due o text second d e a x is (inl m) s none = worked_bare_at (IsEditDue o text second) NoMemory a x (inl refl) (s ∙ ap status_of m) none
+too_much_due o text second d e a x is (inr r) s none =
+    worked_bare_at (IsEditDue o text second) (status_of e) a x
+    (inr (too_much d is e (subst (λ z. Refuses o z d.keep.prims e) (sym (append-nil d.layer.prims)) r))) s none
 
 -- where the drawing is refused, that status ends the work
-pub too_much_worked : (o p : PlainOptions) (text second : List ℕ) (d : Drawing) (e : EditError) (a : Status) (x : List ℕ) → p ≡ o → IsDrawingOf o text d
-    → (e ≡ edit.NoMemory) ⊎ Refuses p d.layer.prims d.keep.prims e → a ≡ of_edit e → x ≡ [] → IsWorked (IsEditDue o text second) a x
+pub too_much_worked : (o p : PlainOptions) (text second : List ℕ) (d : Drawing) (e : LayerError) (a : Status) (x : List ℕ) → p ≡ o → IsDrawingOf o text d
+    → (e ≡ refusal.NoMemory) ⊎ Refuses p d.layer.prims d.keep.prims e → a ≡ status_of e → x ≡ [] → IsWorked (IsEditDue o text second) a x
 too_much_worked o p text second d e a x same is h = too_much_due o text second d e a x is
-    (subst (λ z. (e ≡ edit.NoMemory) ⊎ Refuses z d.layer.prims d.keep.prims e) same h)
+    (subst (λ z. (e ≡ refusal.NoMemory) ⊎ Refuses z d.layer.prims d.keep.prims e) same h)
 
 -- where the text is no script, its first bad line ends the work
 pub no_script_worked : {T : Type 0} (s : Edits) (text : List ℕ) (result : Result T ScriptError) (e : ScriptError) (a : Status) (x : List ℕ) → result ≡ Err e

@@ -2,8 +2,6 @@
 use Rattle.std.specs.Prelude.{ℕ}
 use Rattle.dpl_layer.specs.declared.error.LayerError.{LayerError}
 use Rattle.dpl_layer.specs.declared.error.LayerError.TheVariants as refusal
-use Rattle.dpl_edit.specs.declared.errors.EditError.{EditError}
-use Rattle.dpl_edit.specs.declared.errors.EditError.TheVariants as edit
 use Rattle.dpl_edit.specs.declared.errors.RemoveError.{RemoveError}
 use Rattle.dpl_edit.specs.declared.errors.RemoveError.TheVariants as removal
 use Rattle.dpl_words.specs.declared.edits.ScriptError.{ScriptError}
@@ -16,15 +14,10 @@ status_of (refusal.Layout command what) = Layout command what
 status_of (refusal.Limit kind count) = Limit kind count
 status_of refusal.NoMemory = NoMemory
 
-abbrev pub of_edit : EditError → Status
-of_edit (edit.Limit kind count) = Limit kind count
-of_edit edit.NoMemory = NoMemory
-
 -- a box that is not there is told by the number of the line
 abbrev pub of_removal : ℕ → RemoveError → Status
 of_removal line (removal.NoBox number) = Script line 2
-of_removal line (removal.Limit kind count) = Limit kind count
-of_removal line removal.NoMemory = NoMemory
+of_removal line (removal.Refused error) = status_of error
 
 abbrev pub of_script : ScriptError → Status
 of_script (script.Bad line) = Script line 1

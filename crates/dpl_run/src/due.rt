@@ -35,7 +35,7 @@ pub fn refused(alloc: Global, error: LayerError) -> Due
 }
 
 /// A failed step of the work as a status.
-fn status_of(error: LayerError) -> Status
+pub fn status_of(error: LayerError) -> Status
     ensures { result ≡ errors.status_of error }
 {
     match error {

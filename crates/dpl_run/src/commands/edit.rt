@@ -6,10 +6,10 @@ ghost use Rattle.dpl_run.specs.due.Edit.{AreEditsDue, IsTaken, IsEditDue, IsScri
 ghost use Rattle.dpl_run.specs.Errors as errors;
 ghost use Rattle.dpl_run.specs.Telling.{IsWorked};
 
-use crate::due::{Due, bare, refused};
+use crate::due::{Due, bare, refused, status_of};
 use crate::status::Status;
 use dpl_cell::Rect;
-use dpl_edit::{EditError, RemoveError, Session};
+use dpl_edit::{RemoveError, Session};
 use dpl_layer::read_drawing;
 use dpl_lex::types::Commands;
 use dpl_options::{Options, same_keep, same_name};
@@ -38,7 +38,7 @@ pub fn edit_bytes(
     let options = same_options(options);
     match Session::new(alloc, drawing, options) {
         Ok(session) => follow(alloc, session, script),
-        Err(error) => bare(alloc, of_edit(error)),
+        Err(error) => refused(alloc, error),
     }
 }
 
@@ -142,7 +142,7 @@ fn add(alloc: Global, session: &mut Session, rect: Rect) -> Result<(), Status>
 {
     match session.add(alloc, rect) {
         Ok(_) => Ok(()),
-        Err(error) => Err(of_edit(error)),
+        Err(error) => Err(status_of(error)),
     }
 }
 
@@ -159,16 +159,6 @@ fn remove(alloc: Global, session: &mut Session, removed: u64, number: u64) -> Re
     }
 }
 
-/// Why a content is not taken, as a status.
-fn of_edit(error: EditError) -> Status
-    ensures { result ≡ errors.of_edit error }
-{
-    match error {
-        EditError::Limit { kind, count } => Status::Limit { kind, count },
-        EditError::NoMemory => Status::NoMemory,
-    }
-}
-
 /// Why the line with this number removes no box, as a status.
 fn of_removal(error: RemoveError, number: u64) -> Status
     ensures { result ≡ errors.of_removal number error }
@@ -178,8 +168,7 @@ fn of_removal(error: RemoveError, number: u64) -> Status
             line: number,
             kind: 2,
         },
-        RemoveError::Limit { kind, count } => Status::Limit { kind, count },
-        RemoveError::NoMemory => Status::NoMemory,
+        RemoveError::Refused(error) => status_of(error),
     }
 }
 

@@ -17,5 +17,5 @@ returns-in-Err-clause-refused c =
     let prims = c.args.drawing.now.layer.prims in
     let e : c.weigh-count.result ≡ shown (prim_count prims) = c.weigh-count.ensures ∙ ap (λ z. shown (prim_count z)) c.as_slice.ensures in
     let m : c.most.result ≡ 50000 = c.most.ensures in
-    rw c.as_edit.ensures (drawn_refuses c.args.options.now prims c.args.drawing.now.keep.prims c.in-Err.error
-    (few_shown (prim_count prims) (omega (arith, m, e, c.if-count-most.false))) c.in-Err.ensures.refused)
+    drawn_refuses c.args.options.now prims c.args.drawing.now.keep.prims c.in-Err.error
+    (few_shown (prim_count prims) (omega (arith, m, e, c.if-count-most.false))) c.in-Err.ensures.refused

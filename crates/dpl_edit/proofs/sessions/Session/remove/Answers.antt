@@ -1,6 +1,6 @@
 use Rattle.std.proofs.Common.{rules, true, ◌≡◌, inl, inr, ◌∙◌, ap, sym, Err}
 use Rattle.dpl_edit.specs.Contents.{HasBox, has_number, boxes_without}
-use Rattle.dpl_edit.specs.Errors.{of_edit}
+use Rattle.dpl_edit.specs.declared.errors.RemoveError.TheVariants.{Refused}
 use Rattle.dpl_edit.specs.Optima.{solved_of}
 use Rattle.dpl_edit.specs.Sessions.{State}
 use Rattle.dpl_edit.proofs.SessionLemmas.{content_is, ok_free, err_comes, removal_edits}
@@ -35,6 +35,6 @@ returns-in-Err-solve_edit-clause-exact c = λ e r.
     elim (err_comes _ _ _ _ _ _ c.in-Err-solve_edit.error
     (record { options = o; prims_are = content_is _ _ _ _ b boxes; keep_is = k })
     c.in-Err-solve_edit.ensures.refused x refuses) [
-      | inl y ↦ inl (ap Err (c.as_removal.ensures ∙ ap of_edit y ∙ is))
-      | inr y ↦ inr (ap Err (c.as_removal.ensures ∙ ap of_edit y))
+      | inl y ↦ inl (ap Err (ap Refused y ∙ is))
+      | inr y ↦ inr (ap Err (ap Refused y))
     ]

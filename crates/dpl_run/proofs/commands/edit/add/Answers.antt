@@ -8,5 +8,5 @@ pub returns-in-Ok-clause-edits : goal.returns-in-Ok-clause-edits
 returns-in-Ok-clause-edits c = of_edited c.args.session.now c.add.new.self _ _ c.in-Ok.ensures.added
 
 pub returns-in-Err-clause-stops : goal.returns-in-Err-clause-stops
-returns-in-Err-clause-stops c = λ n. add_stops c.args.session.now c.args.rect c.in-Err.error _ c.of_edit.ensures
+returns-in-Err-clause-stops c = λ n. add_stops c.args.session.now c.args.rect c.in-Err.error _ c.status_of.ensures
     (c.add.ensures.refused c.in-Err.error c.in-Err.is).1 n
