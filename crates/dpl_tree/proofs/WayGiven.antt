@@ -18,7 +18,7 @@ use Rattle.dpl_tree.proofs.Events.{IsEvent}
 use Rattle.dpl_tree.proofs.Growing.{inner_in}
 use Rattle.dpl_tree.proofs.Counting.{ring_short}
 use Rattle.dpl_tree.proofs.RingWalks.{opening_done}
-use Rattle.dpl_tree.proofs.Widening.{given_widens, walked_others}
+use Rattle.dpl_tree.proofs.Widening.{given_widens, walked_others, walked_trees_others}
 use Rattle.dpl_tree.proofs.RoundLemmas.{ring_around, around_turned}
 
 -- what is known of an inner set that is to give way
@@ -212,6 +212,12 @@ given_so {f} {g} {dist} {set} {first} {p} {sets} {ss} {ws} {joins} {ks} t0 t1 t2
           let none = λ (j : ℕ) (h : j < length sets) (e : get_or sets j 0 ≡ k). true_false {P = ⊥} (has (f.children set) k)
           (ap (has (f.children set)) (sym e) ∙ o.ring.kids j h) out in
           after k none ∙ op.place_others k ne (λ e. none 0 (omega (arith, o.place)) (sym (e ∙ ef)));
+      trees = λ k ne out.
+          let none = λ (j : ℕ) (h : j < length sets) (e : get_or sets j 0 ≡ k). true_false {P = ⊥} (has (f.children set) k)
+          (ap (has (f.children set)) (sym e) ∙ o.ring.kids j h) out in
+          let same : get_or t2.trees.items k 0 ≡ get_or t1.trees.items k 0 =
+          ap (λ (z : Lists). get_or z.trees k 0) el ∙ walked_trees_others (lists_of t1) sets joins k (p / 2) none half in
+          same ∙ op.tree_others k (λ e. none 0 (omega (arith, o.place)) (sym (e ∙ ef)));
     }
 
 -- a step that keeps the lengths

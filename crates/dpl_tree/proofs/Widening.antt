@@ -112,6 +112,21 @@ walked_others l sets joins i (suc r) none h =
     ap place_of (get_or-set_other (set m.labels o Outer) next i Inner Free b ∙
     get_or-set_other m.labels o i Outer Free a) ∙ walked_others l sets joins i r none (omega (arith, h))
 
+-- nor does it stand in another tree
+pub walked_trees_others : (l : Lists) (sets : List ℕ) (joins : List (ℕ × ℕ)) (i r : ℕ)
+    → ((j : ℕ) → j < length sets → get_or sets j 0 ≢ i) → 2 * r < length sets
+    → get_or (walked_times l sets joins r).trees i 0 ≡ get_or l.trees i 0
+walked_trees_others l sets joins i zero none h = refl
+walked_trees_others l sets joins i (suc r) none h =
+    let m : Lists = walked_times l sets joins r in
+    let o : ℕ = get_or sets (2 * r + 1) 0 in
+    let next : ℕ = get_or sets (2 * r + 2) 0 in
+    let number : ℕ = get_or m.trees (get_or sets (2 * r) 0) 0 in
+    let a : i ≢ o = λ z. none (2 * r + 1) (omega (arith, h)) (sym z) in
+    let b : i ≢ next = λ z. none (2 * r + 2) (omega (arith, h)) (sym z) in
+    get_or-set_other (set m.trees o number) next i number 0 b ∙
+    get_or-set_other m.trees o i number 0 a ∙ walked_trees_others l sets joins i r none (omega (arith, h))
+
 -- a set that gives way keeps the outer members
 pub given_widens : (n : ℕ) (f g : Sets) (dist : ℕ → ℕ → ℕ) (t0 t1 t2 : Tree) (mates new : List (Option ℕ))
     → (set : ℕ) (sets : List ℕ) (joins : List (ℕ × ℕ)) (p : ℕ) → IsStage n f dist (forest_of t0 mates)

@@ -1,8 +1,8 @@
 -- What a step starts from and what it leads to: trees over the tops of a family, by any distances that make them those of
 -- a stage; and a matching between two stages, and with the tree of a stage.
-use Rattle.std.specs.Prelude.{◌≡◌, ◌≢◌, ℕ, ◌+◌, ◌*◌, ◌<◌, Option, List, length, slice_index}
+use Rattle.std.specs.Prelude.{◌≡◌, ◌≢◌, ℕ, ◌+◌, ◌*◌, ◌<◌, false, Option, List, length, slice_index}
 use Rattle.dpl_laminar.specs.Changes.{IsShrunk, IsExpanded}
-use Rattle.dpl_laminar.specs.Families.{Sets, IsFamily}
+use Rattle.dpl_laminar.specs.Families.{Sets, IsFamily, has}
 use Rattle.dpl_laminar.specs.Storing.{sets_of}
 use Rattle.dpl_tree.specs.declared.matching.Matching.{Matching}
 use Rattle.dpl_tree.specs.declared.tree.Tree.{Tree}
@@ -47,12 +47,14 @@ pub record HasFolded (f : Sets) (x : Forest) (set : ℕ) (g : Sets) (y : Forest)
   pub folds : Folds x children meet set y
   pub drops : DropsInside f.size g x.mate y.mate
 
--- an inner set was taken away, and of all others none but its children stand in the trees otherwise than before
+-- an inner set was taken away, and of all others none but its children stand in the trees otherwise than before, or in
+-- another tree
 pub record HasGivenWay (f : Sets) (x : Forest) (set : ℕ) (g : Sets) (y : Forest) : Type 0 where
   pub expanded : IsExpanded f set g
   pub family : IsFamily g
   pub leaves : y.place set ≡ free
   pub others : KeepOthers (f.children set) set x.place y.place
+  pub trees : (k : ℕ) → k ≢ set → has (f.children set) k ≡ false → y.tree k ≡ x.tree k
 
 -- the lists of a matching have a place for each member, and its sums are those of its family
 pub record AreListed (metric : Table) (matching : Matching) : Type 0 where
