@@ -24,6 +24,6 @@ returns-in-Ok-new c =
 pub returns-in-Err-new : goal.returns-in-Err-new
 returns-in-Err-new c =
     too_much_worked c.args.options.now c.same_options-options.result c.args.text.now c.args.script.now c.in-Ok.drawing
-    c.in-Err-new.error c.refused-2.result.status c.refused-2.result.output.items
+    c.in-Err-new.error c.refused-in-Err-new.result.status c.refused-in-Err-new.result.output.items
     c.same_options-options.ensures c.in-Ok.ensures.drawing (c.new.ensures.refused c.in-Err-new.error c.in-Err-new.is)
-    c.refused-2.ensures.status c.refused-2.ensures.output
+    c.refused-in-Err-new.ensures.status c.refused-in-Err-new.ensures.output
