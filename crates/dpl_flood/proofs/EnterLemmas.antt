@@ -38,7 +38,7 @@ still_free p g l = elim (place_cases p) [
 ]
 
 -- one that gains is outer
-gains_outer : (p : Place) → gain p ≡ 1 → p ≡ outer
+pub gains_outer : (p : Place) → gain p ≡ 1 → p ≡ outer
 gains_outer p g = elim (place_cases p) [
   | inl e ↦ absurd (omega (arith, ap gain e, g))
   | inr (inl e) ↦ e
@@ -120,7 +120,7 @@ pub record HasGrown (x y : State) (s t o : ℕ) : Type 0 where
       (losses_in (place_in y.tree.labels.items)) (λ k. get_or y.rests.items k false)
 
 -- what stands in a tree moves
-moving : (p : Place) → p ≢ free → gain p + drop_of p ≡ 1
+pub moving : (p : Place) → p ≢ free → gain p + drop_of p ≡ 1
 moving p ne = elim (place_cases p) [
   | inl e ↦ absurd (ne e)
   | inr (inl e) ↦ omega (arith, ap gain e, ap drop_of e)
@@ -232,12 +232,21 @@ grown_nearer d x y s t m o w h =
     let new = forest_of y.tree x.mates.items in
     let g = h.tree in
     let is_outer : old.place (f.top s) ≡ outer = gains_outer (old.place (f.top s)) w.grows in
+    let is_free : old.place (f.top t) ≡ free = still_free (old.place (f.top t)) w.gains w.stays in
+    let too : old.place (f.top o) ≡ free = mate_free d x s t m o w in
     let stage = stage_grown d x y s t m o w h in
     record {
       time = h.same.time;
       seats = h.same.seats;
       falls = subst (λ z. potential n (sets_of z) (place_in y.tree.labels.items) < potential n f old.place) (sym h.same.family) stage.1;
       trees = grown_trees f old new s t o is_outer g;
+      stay = λ a ha e.
+          let nt : f.top a ≢ f.top t = λ q. outer_in e (ap old.place q ∙ is_free) in
+          let nu : f.top a ≢ f.top o = λ q. outer_in e (ap old.place q ∙ too) in
+          let top : (sets_of y.family).top a ≡ f.top a = ap (λ z. (sets_of z).top a) h.same.family in (
+            ap (place_in y.tree.labels.items) top ∙ g.place_others (f.top a) nt nu ∙ e,
+            ap new.tree top ∙ g.tree_others (f.top a) nt nu,
+          );
       ranks = λ bound low i. elim (cases_eq i (f.top t)) [
         | inl e ↦ omega (arith, ap new.rank e, g.rank_inner, low (f.top s), w.from)
         | inr nt ↦ elim (cases_eq i (f.top o)) [
@@ -313,4 +322,4 @@ free_paired d x y c f w p t top mates is same none =
 pub tied_nearer : (d : Dual) (x y z : State) (one two : ℕ) (p : ℕ × ℕ) → HasTied d x y one two p → IsNearer y z → IsNearer x z
 tied_nearer d x y z one two p t n =
     let b = subst (λ q. IsNearer q z) t.rest n in
-    record { time = b.time; seats = b.seats; falls = b.falls; trees = b.trees; ranks = b.ranks }
+    record { time = b.time; seats = b.seats; falls = b.falls; trees = b.trees; stay = b.stay; ranks = b.ranks }

@@ -303,7 +303,7 @@ fold_stands d terminals x children joins set new gain loss rests s f =
     ])
 
 -- the place of a point after a fold
-folded_in : (x : Sea) (children : List ℕ) (joins : List (ℕ × ℕ)) (set : ℕ) (new : Sets) (gain loss : ℕ → ℕ) (rests : ℕ → Bool)
+pub folded_in : (x : Sea) (children : List ℕ) (joins : List (ℕ × ℕ)) (set : ℕ) (new : Sets) (gain loss : ℕ → ℕ) (rests : ℕ → Bool)
     → AreMoving x → Folds x children joins set new gain loss rests → (p : Point) → ((t far : ℕ) → p ≡ on t far → t < x.sets.size)
     → has children (place_of x.sets p) ≡ true → place_of new p ≡ set
 folded_in x children joins set new gain loss rests m f water h y = absurd (omega (arith, (live_child x m children f.moved (2 * x.sets.size) y).0))

@@ -64,7 +64,7 @@ far_kept ways nodes joins f g a b old new = new ∙ sym (far_alike ways nodes jo
 -- ---- the beginning
 
 -- without values all totals are 0
-start_total : (f : Sets) → ((i : ℕ) → f.value i ≡ 0) → (m : ℕ) → totals f.size f m ≡ 0
+pub start_total : (f : Sets) → ((i : ℕ) → f.value i ≡ 0) → (m : ℕ) → totals f.size f m ≡ 0
 start_total f none m = sum_same (2 * f.size) (λ i. cond (f.holds i m) (f.value i) 0) (λ i. 0) (λ i h. both (f.holds i m) (f.value i) (none i))
     ∙ sum_zero (2 * f.size)
   where

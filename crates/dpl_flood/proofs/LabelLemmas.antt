@@ -1,18 +1,16 @@
 -- States whose tops stand another way in the trees.
-use Rattle.std.proofs.Common.{arith, ◌≡◌, ℕ, ◌+◌, ◌*◌, ◌<◌, refl, sym, ap, ◌∙◌, subst, inl, inr, Bool, Option, true, false, List, length, get_or}
+use Rattle.std.proofs.Common.{arith, ◌≡◌, ℕ, ◌+◌, ◌*◌, ◌<◌, refl, sym, ap, ◌∙◌, subst, inl, inr, Bool, Option, false, List, length, get_or}
 use Rattle.std.proofs.Math.Path.{subst₂}
 use Rattle.std.specs.Prelude.{slice_set}
-use Rattle.std.proofs.lemmas.Bool.{cases_eq, cases_lt, true≢false}
-use Rattle.std.proofs.lemmas.List.{get_or-set_other, get_or_past, length-set}
+use Rattle.std.proofs.lemmas.Bool.{true≢false}
+use Rattle.std.proofs.lemmas.List.{get_or-set_other}
 use Rattle.std.proofs.lemmas.Grind.{get_or-set_at}
 use Rattle.dpl_laminar.specs.Storing.{sets_of}
 use Rattle.dpl_dual.specs.declared.crosses.Dual.{Dual}
 use Rattle.dpl_tree.specs.declared.tree.Tree.{Tree}
 use Rattle.dpl_tree.specs.steps.Forests as forests
-use Rattle.dpl_tree.specs.declared.tree.Label.{Label}
-use Rattle.dpl_tree.specs.declared.tree.Label.TheVariants.{Free}
 use Rattle.dpl_tree.specs.steps.Forests.{gain, drop_of}
-use Rattle.dpl_tree.specs.Views.{place_of, place_in, forest_of}
+use Rattle.dpl_tree.specs.Views.{place_in, forest_of}
 use Rattle.dpl_flood.specs.declared.state.State.{State}
 use Rattle.dpl_pack.specs.Nests.{inner_of}
 use Rattle.dpl_flood.specs.Arenas.{AreNodes, node_at}
@@ -60,32 +58,7 @@ grown d x tree rests s t o mates st may g r =
       pace = may.pace;
     }
 
--- a top stands still, and rests
-pub ceased : (d : Dual) (x : State) (set : ℕ) (labels : List Label) (rests : List Bool) → IsState d x → set < 2 * (sets_of x.family).size
-    → labels ≡ slice_set x.tree.labels.items set Free → rests ≡ slice_set x.rests.items set true
-    → Ceases (sea_of x) (gains_in (place_in labels)) (losses_in (place_in labels)) (λ k. get_or rests k false)
-ceased d x set labels rests st h l r = record {
-  each = λ k. elim (cases_eq k set) [
-    | inl e ↦
-        let here : get_or labels k Free ≡ Free = ap (λ z. get_or z k Free) l ∙ get_or-set_at x.tree.labels.items set k Free Free e (omega (arith, h, st.sized.labels)) in
-        inr (
-          ap (λ z. gain (place_of z)) here,
-          (ap (λ z. drop_of (place_of z)) here, ap (λ z. get_or z k false) r ∙ get_or-set_at x.rests.items set k true false e (omega (arith, h, st.sized.rests))),
-        )
-    | inr ne ↦
-        let same : get_or labels k Free ≡ get_or x.tree.labels.items k Free = ap (λ z. get_or z k Free) l ∙ get_or-set_other x.tree.labels.items set k Free Free ne in
-        inl (
-          ap (λ z. gain (place_of z)) same,
-          (ap (λ z. drop_of (place_of z)) same, ap (λ z. get_or z k false) r ∙ get_or-set_other x.rests.items set k true false ne),
-        )
-  ];
-  range = λ k e. elim (cases_lt k (2 * (sets_of x.family).size)) [
-    | inl low ↦ low
-    | inr high ↦ absurd (true≢false (sym e ∙ get_or_past rests k false (omega (arith, high, ap length r, length-set x.rests.items set true, st.sized.rests))))
-  ];
-}
-
--- and no key is too late
+-- where tops stand still and rest, no key is too late
 pub ceased_keys : (d : Dual) (x y : State) (keys : List ℕ) → IsState d x → IsRelabelled x y
     → Ceases (sea_of x) (gains_in (place_in y.tree.labels.items)) (losses_in (place_in y.tree.labels.items)) (λ k. get_or y.rests.items k false)
     → AreKeys d x keys → AreKeys d y keys

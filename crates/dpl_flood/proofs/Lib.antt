@@ -6,6 +6,7 @@ mod NotedLemmas
 mod ChainedLemmas
 mod HolderLemmas
 mod PairLemmas
+mod NearLemmas
 mod StepLemmas
 pub mod DueLemmas
 pub mod ShoreLemmas
@@ -33,6 +34,12 @@ mod ForestLemmas
 mod TreedLemmas
 mod TiedLemmas
 mod EnterLemmas
+mod AugmentLemmas
+mod OnwardLemmas
+mod CloseLemmas
+mod TotalLemmas
+mod FoldingLemmas
+mod GiveLemmas
 mod ClockLemmas
 mod ComeLemmas
 mod LabelLemmas
@@ -40,3 +47,4 @@ mod BeginLemmas
 mod TurnLemmas
 pub mod SweepLemmas
 mod TopLemmas
+pub mod RunLemmas

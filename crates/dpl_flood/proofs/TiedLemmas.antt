@@ -38,7 +38,7 @@ both c d a b = elim (cases_eq c a) [
 ]
 
 -- where a join is there it is how far its members are
-far_there : (ways : List Cross) (nodes : List Node) (joins : Entries) (f : Sets) (a b : ℕ) (j : Join) → join_at joins a b ≡ Some j
+pub far_there : (ways : List Cross) (nodes : List Node) (joins : Entries) (f : Sets) (a b : ℕ) (j : Join) → join_at joins a b ≡ Some j
     → dist_in ways nodes joins f a b ≡ join_length ways nodes j
 far_there ways nodes joins f a b j e = ap (λ z. option_map_or (join_length ways nodes) z (load_of f a b + 1)) e
 

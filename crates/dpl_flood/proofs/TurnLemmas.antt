@@ -31,7 +31,8 @@ use Rattle.dpl_flood.proofs.SeaLemmas.{now_kept}
 use Rattle.dpl_flood.proofs.StackedLemmas.{top_due}
 use Rattle.dpl_flood.proofs.ToldLemmas.{told_is, told_later}
 
-is_true : (i j : ℕ) → (j == i) ≡ true → j ≡ i
+-- what is tested to be equal is
+pub is_true : (i j : ℕ) → (j == i) ≡ true → j ≡ i
 is_true i j y = elim (cases_eq j i) [
   | inl e ↦ e
   | inr ne ↦ absurd (true≢false (sym y ∙ ne_eqb j i ne))

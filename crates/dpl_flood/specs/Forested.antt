@@ -1,12 +1,12 @@
 -- Alternating trees over the tops of moats: Edmonds' trees, all at once, in which the joins that members have are as long as
 -- their loads.
 use Rattle.std.specs.Prelude.{◌≡◌, ◌≢◌, ℕ, ◌+◌, ◌*◌, ◌<◌, true, None, length}
-use Rattle.dpl_laminar.specs.Families.{load_of}
+use Rattle.dpl_laminar.specs.Families.{Sets, load_of}
 use Rattle.dpl_laminar.specs.Storing.{sets_of}
 use Rattle.dpl_dual.specs.declared.crosses.Dual.{Dual}
 use Rattle.dpl_dual.specs.Duals.{way_at}
 use Rattle.dpl_tree.specs.Stages.{IsStage, IsReady, AreRanked, KeepsTrees, potential}
-use Rattle.dpl_tree.specs.steps.Forests.{Forest, free}
+use Rattle.dpl_tree.specs.steps.Forests.{Forest, IsPair, free, outer}
 use Rattle.dpl_tree.specs.Views as views
 use Rattle.dpl_tree.specs.Views.{forest_of}
 use Rattle.dpl_flood.specs.declared.event.Crossing.{Crossing}
@@ -55,14 +55,26 @@ pub record IsSameForest (x y : State) : Type 0 where
   pub joins : y.joins ≡ x.joins
   pub arena : IsLonger x.arena y.arena
 
--- An event of trees, at the same time: they are nearer to their end, no new one has begun, and ranks have risen by little.
+-- who has an outer top has one afterwards, in the same tree
+abbrev pub KeepsOuter : Sets → Forest → Sets → Forest → Type 0
+KeepsOuter f x g y = (a : ℕ) → a < f.size → x.place (f.top a) ≡ outer → (y.place (g.top a) ≡ outer) × (y.tree (g.top a) ≡ x.tree (f.top a))
+
+-- An event of trees, at the same time: they are nearer to their end, no new one has begun and none has ended, and ranks have
+-- risen by little.
 pub record IsNearer (x y : State) : Type 0 where
   pub time : y.time ≡ x.time
   pub seats : y.seats ≡ x.seats
   pub falls : potential (sets_of x.family).size (sets_of y.family) (trees_of y).place <
       potential (sets_of x.family).size (sets_of x.family) (trees_of x).place
   pub trees : KeepsTrees (trees_of x) (trees_of y)
+  pub stay : KeepsOuter (sets_of x.family) (trees_of x) (sets_of y.family) (trees_of y)
   pub ranks : (bound : ℕ) → AreRanked (trees_of x) bound → AreRanked (trees_of y) (bound + 4 * (sets_of x.family).size)
+
+-- two members of tops that grow are tight by the joins that members have
+pub record IsTied (d : Dual) (x : State) (p : ℕ × ℕ) : Type 0 where
+  pub forest : IsForested d x
+  pub pair : IsPair (sets_of x.family).size (sets_of x.family) (trees_of x).place outer p.0 p.1
+  pub tight : load_of (sets_of x.family) p.0 p.1 ≡ dist_of d x p.0 p.1
 
 -- two tops have met over a way
 pub record IsMeeting (d : Dual) (x : State) (c : Crossing) : Type 0 where

@@ -12,7 +12,12 @@ pub mod Holdings
 pub mod Standings
 pub mod States
 pub mod Forested
+pub mod Ended
+pub mod Closed
 pub mod StateLaws
 pub mod Events
+pub mod Foldings
+pub mod Givings
 pub mod Starts
 pub mod Sweeps
+pub mod Runs

@@ -2,9 +2,11 @@
 
 ghost use Rattle.std.specs.Prelude.{◌≡◌, ℕ, ◌+◌, ◌*◌, ◌<◌, ◌≤◌, ◌^◌, Some, None, [], List, All, IfOk, length, slice_index, replicate};
 ghost use Rattle.dpl_laminar.specs.Storing.{sets_of, AreOnce};
-ghost use Rattle.dpl_flood.specs.Forested.{IsForested};
+ghost use Rattle.dpl_tree.specs.Stages.{AreRanked};
+ghost use Rattle.dpl_flood.specs.Forested.{IsForested, trees_of};
 ghost use Rattle.dpl_flood.specs.Holdings.{node_of};
 ghost use Rattle.dpl_flood.specs.Queues.{never};
+ghost use Rattle.dpl_flood.specs.Runs.{roots_of};
 ghost use Rattle.dpl_flood.specs.Starts.{AreSeats, AreSeated, AreFirst, HasBegun};
 ghost use Rattle.dpl_flood.specs.States.{AreKeys, IsGround, sea_of};
 ghost use Rattle.dpl_flood.specs.Steps.{step_rows};
@@ -65,6 +67,8 @@ impl State {
         ensures begun { IfOk result (HasBegun dual.now) }
         ensures forest { IfOk result (IsForested dual.now) }
         ensures seats { IfOk result (λ x. x.seats ≡ faces.now) }
+        ensures roots { IfOk result (λ x. roots_of x ≡ length faces.now) }
+        ensures low { IfOk result (λ x. AreRanked (trees_of x) 0) }
     {
         let size = faces.len();
         let mut arena = Arena::new(alloc, dual.faces)?;

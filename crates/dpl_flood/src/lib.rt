@@ -7,21 +7,30 @@
 //! a chain, and that the keys of ways and sets tell when something comes. They are contracts of calls that do nothing.
 //!
 //! A `State` is what there is at one moment, with the trees and the joins of its members. `sweep` lets time pass, and takes
-//! and leaves faces, until a tree changes; `enter` takes a free top and its mate into a tree.
+//! and leaves faces, until a tree changes; `enter` takes a free top and its mate into a tree; `meet` folds a tree or ends
+//! two, where tops that grow have met, `close` makes one top around a single that has come to nothing, and `give_way` takes
+//! a top away that fell and has nothing left. `run` goes on so until no tree is left, and `finish` joins the faces of each
+//! pair. `pair_faces` is all of this, from the faces to their mates: they are tight, so no pairing over chains is shorter.
 //!
 //! `Queue` has a key for each place and answers the least one. `Arena` keeps chains for good: a node is the last way of a
 //! chain from the seat of a member to a face, and nodes are only added. A `Join` is two such chains and a way between
 //! them, so it is a chain from seat to seat. `Joins` has one for any two members that are joined. `steps_at` gives the
-//! ways at each face, with their numbers. No program runs on this crate yet.
+//! ways at each face, with their numbers. `flood` is what `dpl_solve` is to run on; it does not yet.
 #![tactic(auto)]
 
 mod arena;
+mod augmenting;
 mod beginning;
 mod chains;
+mod closing;
 mod coming;
+mod ending;
 mod entering;
 mod event;
 mod flipping;
+mod flooding;
+mod folding;
+mod giving;
 mod held;
 mod holders;
 mod joins;
@@ -29,11 +38,14 @@ mod laws;
 mod looks;
 mod meeting;
 mod nodes;
+mod pairing;
 mod pairs;
 mod passing;
 mod queue;
 mod relabelling;
+mod running;
 mod searching;
+mod settling;
 mod shifting;
 mod shores;
 mod standing;
@@ -41,16 +53,21 @@ mod state;
 mod sweeping;
 #[cfg(test)]
 mod tests;
+mod totals;
 mod turning;
 mod ways;
 
 pub use arena::Arena;
 pub use beginning::first_keys;
 pub use chains::{chains_stay, joins_lead, steps_are};
+pub use closing::close;
 pub use coming::next;
+pub use ending::finish;
 pub use entering::enter;
 pub use event::{Crossing, Event};
 pub use flipping::flip_join;
+pub use flooding::{Grown, flood};
+pub use giving::give_way;
 pub use held::Held;
 pub use holders::held_faces;
 pub use joins::{Joins, joins_are_far, joins_stay};
@@ -60,10 +77,13 @@ pub use laws::{
 };
 pub use looks::{look_around, look_set, look_top, look_way};
 pub use nodes::{Join, Last, Node};
+pub use pairing::pair_faces;
 pub use pairs::{join_all, join_pairs};
 pub use passing::advance;
 pub use queue::Queue;
-pub use relabelling::{cease, grow, rouse};
+pub use relabelling::{grow, rouse};
+pub use running::{go_on, has_trees, run};
+pub use settling::meet;
 pub use shifting::{reach, retreat, shift};
 pub use shores::{leave, take};
 pub use standing::{Standing, due};

@@ -1,4 +1,4 @@
-//! Tops begin to grow or to fall, stand still and rest. No moat moves.
+//! Tops begin to grow or to fall, and rest no more. No moat moves.
 
 ghost use Rattle.std.specs.Prelude.{◌≡◌, ◌≢◌, ℕ, ◌*◌, ◌<◌, ◌^◌, false, List, Option, slice_index, slice_index_or};
 ghost use Rattle.dpl_laminar.specs.Storing.{sets_of};
@@ -9,11 +9,10 @@ ghost use Rattle.dpl_tree.specs.Views.{forest_of, place_in};
 ghost use Rattle.dpl_flood.specs.Events.{IsRelabelled, MayGrow};
 ghost use Rattle.dpl_flood.specs.Forested.{IsSameForest};
 ghost use Rattle.dpl_flood.specs.Rates.{gains_in, losses_in};
-ghost use Rattle.dpl_flood.specs.Seas.{Grows, Ceases};
-ghost use Rattle.dpl_flood.specs.States.{IsState, AreKeys, sea_of};
+ghost use Rattle.dpl_flood.specs.Seas.{Grows};
+ghost use Rattle.dpl_flood.specs.States.{IsState, sea_of};
 
 use crate::state::State;
-use dpl_tree::Label;
 
 /// A free top that was met at a member falls from now on, and that of the mate, which is paired with it, grows: both go into
 /// the tree of the one that met it.
@@ -38,20 +37,6 @@ pub fn grow(state: &mut State, from: u32, to: u32, mate: u32)
     let outer = state.family.tops(mate);
     dpl_tree::grow(&state.family, &mut state.tree, from, to, mate);
     state.rests[outer as usize] = false;
-}
-
-/// A top of a tree that ends stands still, and rests. All keys serve on.
-pub fn cease(state: &mut State, set: u32)
-    requires state { (d : Dual) × IsState d state.old }
-    requires set { set < 2 * (sets_of state.old.family).size }
-    ensures ceases { Ceases (sea_of state.old) (gains_in (place_in state.new.tree.labels.items))
-        (losses_in (place_in state.new.tree.labels.items)) (λ k. slice_index_or state.new.rests.items k false) }
-    ensures rest { IsRelabelled state.old state.new }
-    ensures state { (d : Dual) → IsState d state.old → IsState d state.new }
-    ensures keys { (d : Dual) (keys : List ℕ) → IsState d state.old → AreKeys d state.old keys → AreKeys d state.new keys }
-{
-    state.tree.labels[set as usize] = Label::Free;
-    state.rests[set as usize] = true;
 }
 
 /// A set rests no more.

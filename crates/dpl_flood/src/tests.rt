@@ -1,13 +1,23 @@
 //! Small cases by hand.
 
-ghost use Rattle.std.specs.Prelude.{◌≡◌, ◌<◌, IfOk, length};
+ghost use Rattle.std.specs.Prelude.{◌≡◌, ◌<◌, ◌≤◌, ◌^◌, List, IfOk, length, slice_index};
+ghost use Rattle.dpl_dual.specs.declared.crosses.Cross.{Cross};
+ghost use Rattle.dpl_dual.specs.Chains.{Leads, length_of};
 ghost use Rattle.dpl_flood.specs.Starts.{AreSeats};
 ghost use Rattle.dpl_flood.specs.States.{IsGround};
 
-use crate::{Arena, Held, Join, NoMemory, Queue, State, first_keys, steps_at};
+use crate::giving::{look_tops, settle};
+use crate::totals::{add_tops, drop_tops};
+use crate::{Arena, Event, Held, Join, NoMemory, Queue, State, first_keys, meet, steps_at, sweep};
 use dpl_dual::{Cross, Dual, Rows};
+use dpl_laminar::{Family, Steps};
 use dpl_list::{Grouped, Items};
 use std::alloc::Global;
+use std::marker::Brand;
+use std::sync::ledger::{Blank, Ledger};
+
+mod closing;
+mod pairing;
 
 fn way(f: u32, g: u32, length: u64) -> Cross
     ensures { (result.f ≡ f) × (result.g ≡ g) }
@@ -111,7 +121,11 @@ fn a_join_has_the_ways_between_its_seats(rt: HostRuntime) -> Result<(), NoMemory
 fn row_of_faces(alloc: Global) -> Result<Dual, NoMemory>
     ensures ground { IfOk result IsGround }
     ensures faces { IfOk result (λ d. d.faces ≡ 4) }
+    ensures ways { IfOk result (λ d. length d.crosses ≡ 3) }
+    ensures odd { IfOk result (λ d. length d.odd ≡ 2) }
     ensures seats { IfOk result (λ d. AreSeats d d.odd) }
+    ensures chain { IfOk result (λ d. (xs : List Cross) × Leads d.crosses (slice_index d.odd 0) xs (slice_index d.odd 1)
+        × (length_of xs ≤ 2 ^ 51)) }
 {
     let ways = [
         Cross {
@@ -169,5 +183,112 @@ fn key_at_first(alloc: Global) -> Result<(u64, usize), NoMemory> {
 fn seats_tell_the_first_keys(rt: HostRuntime) -> Result<(), NoMemory> {
     let keys = key_at_first(rt.alloc())?;
     assert_eq!(rt; keys, (2, 7));
+    Ok(())
+}
+
+/// What all sets have for two members, of which the first one has value 4, and what those inside its top have for it.
+fn sums_of_two<L: Ledger>(alloc: Global, blank: Blank) -> Result<(u64, u64, u64), NoMemory>
+    requires name { blank.name ≡ L.name }
+    requires parts { blank.parts ≡ L.parts }
+    requires some { 0 < L.parts }
+{
+    let (book, share) = blank.open::<L>();
+    let mut steps = Steps::new(book, share);
+    let mut family = Family::new(alloc, 2)?;
+    family.raise(0, 4, &mut steps);
+    let mut sums = [0, 0];
+    add_tops(&family, &mut sums);
+    let (first, second) = (sums[0], sums[1]);
+    drop_tops(&family, &mut sums);
+    Ok((first, second, sums[0]))
+}
+
+#[test]
+fn tops_are_added_and_dropped(rt: HostRuntime) -> Result<(), NoMemory> {
+    let sums = sums_of_two::<Brand>(rt.alloc(), Blank::new(1))?;
+    assert_eq!(rt; sums, (4, 0, 0));
+    Ok(())
+}
+
+/// The mate of a member.
+fn mate_of(state: &State, member: usize) -> Option<u32> {
+    match state.mates.get(member) {
+        Some(mate) => *mate,
+        None => None,
+    }
+}
+
+/// The mates of the two members of a row of faces, and the time, once both trees have met and ended.
+fn mates_at_end<L: Ledger>(
+    alloc: Global,
+    blank: Blank,
+) -> Result<(Option<u32>, Option<u32>, u64), NoMemory>
+    requires name { blank.name ≡ L.name }
+    requires parts { blank.parts ≡ L.parts }
+    requires some { 0 < L.parts }
+{
+    let (book, share) = blank.open::<L>();
+    let mut steps = Steps::new(book, share);
+    let dual = row_of_faces(alloc)?;
+    let ways = steps_at(alloc, dual.crosses.as_slice(), dual.faces)?;
+    let mut state = State::start(alloc, &dual, dual.odd.as_slice())?;
+    let mut queue = first_keys(alloc, &state, &dual, &ways)?;
+    match sweep(&mut state, &dual, &ways, &mut queue, &mut steps)? {
+        Event::Meet(ahead) => {
+            meet(
+                alloc, &mut state, &dual, &ways, &mut queue, ahead, &mut steps,
+            )?;
+            Ok((mate_of(&state, 0), mate_of(&state, 1), state.time))
+        }
+        _ => Ok((None, None, 0)),
+    }
+}
+
+#[test]
+fn two_trees_that_meet_end(rt: HostRuntime) -> Result<(), NoMemory> {
+    let mates = mates_at_end::<Brand>(rt.alloc(), Blank::new(1))?;
+    assert_eq!(rt; mates, (Some(1), Some(0), 4));
+    Ok(())
+}
+
+/// The first key of a row of four faces at the beginning, before and after its two tops are looked at.
+fn keys_of_tops(alloc: Global) -> Result<(u64, u64), NoMemory> {
+    let dual = row_of_faces(alloc)?;
+    let steps = steps_at(alloc, dual.crosses.as_slice(), dual.faces)?;
+    let state = State::start(alloc, &dual, dual.odd.as_slice())?;
+    let mut queue = Queue::new(alloc, 7)?;
+    let never = queue.first();
+    look_tops(&state, &dual, &steps, &mut queue, &[0, 1]);
+    Ok((never, queue.first()))
+}
+
+#[test]
+fn tops_that_are_looked_at_tell_their_keys(rt: HostRuntime) -> Result<(), NoMemory> {
+    let keys = keys_of_tops(rt.alloc())?;
+    assert_eq!(rt; keys, (u64::MAX, 2));
+    Ok(())
+}
+
+/// What three members have inside their tops where the set of all three goes, and the first one alone has a value.
+fn inners_after<L: Ledger>(alloc: Global, blank: Blank) -> Result<(u64, u64, u64), NoMemory>
+    requires name { blank.name ≡ L.name }
+    requires parts { blank.parts ≡ L.parts }
+    requires some { 0 < L.parts }
+{
+    let (book, share) = blank.open::<L>();
+    let mut steps = Steps::new(book, share);
+    let mut family = Family::new(alloc, 3)?;
+    family.raise(0, 4, &mut steps);
+    let joins = [(0, 1), (1, 2), (2, 0)];
+    let set = family.shrink(alloc, &[0, 1, 2], &joins, &mut steps)?;
+    let mut inners = [9, 8, 7];
+    settle(&family, &mut inners, set);
+    Ok((inners[0], inners[1], inners[2]))
+}
+
+#[test]
+fn a_member_loses_what_its_child_has(rt: HostRuntime) -> Result<(), NoMemory> {
+    let inners = inners_after::<Brand>(rt.alloc(), Blank::new(1))?;
+    assert_eq!(rt; inners, (5, 8, 7));
     Ok(())
 }

@@ -1,7 +1,9 @@
-use Rattle.std.proofs.Common.{arith, ◌≡◌, ℕ, zero, suc, ◌<◌, refl, sym, ap, ◌∙◌, subst, List, [], ◌∷◌, length, get_or}
-use Rattle.std.specs.Prelude.{All, slice_index, ◌%◌, ◌≤◌, ◌^◌}
+use Rattle.std.proofs.Common.{arith, ◌≡◌, ℕ, zero, suc, ◌<◌, refl, sym, ap, ◌∙◌, subst, inl, List, [], ◌∷◌, length, get_or}
+use Rattle.std.proofs.Math.Path.{subst₂}
+use Rattle.std.specs.Prelude.{All, ◌%◌, ◌≤◌, ◌^◌}
 use Rattle.dpl_dual.specs.declared.crosses.Cross.{Cross}
 use Rattle.dpl_dual.specs.declared.crosses.Dual.{Dual}
+use Rattle.dpl_dual.specs.Chains.{Leads, length_of}
 use Rattle.dpl_flood.specs.Starts.{AreSeats}
 use Rattle.dpl_flood.specs.States.{IsGround}
 use Rattle.dpl_flood.proofs.tests.row_of_faces.Goals as goal
@@ -63,6 +65,29 @@ row_seats d xs is faces part =
           omega (arith, e, ap (λ z. get_or xs z 0) i_is, ap (λ z. get_or xs z 0) j_is, first, second);
     }
 
+abbrev first_way : Cross
+first_way = record { f = 0; g = 1; edge = 0; length = 2 }
+
+abbrev second_way : Cross
+second_way = record { f = 1; g = 2; edge = 1; length = 4 }
+
+abbrev third_way : Cross
+third_way = record { f = 2; g = 3; edge = 2; length = 2 }
+
+abbrev three_ways : List Cross
+three_ways = first_way ∷ second_way ∷ third_way ∷ []
+
+-- they lead from the first face to the last
+row_chain : (crosses : List Cross) (odd : List ℕ) → crosses ≡ three_ways → odd ≡ 0 ∷ 3 ∷ []
+    → (xs : List Cross) × Leads crosses (get_or odd 0 0) xs (get_or odd 1 0) × (length_of xs ≤ 2 ^ 51)
+row_chain crosses odd is ends =
+    let leads : Leads three_ways 0 three_ways 3 =
+    ((0, omega arith, refl), inl refl, ((1, omega arith, refl), inl refl, ((2, omega arith, refl), inl refl, refl))) in (
+      three_ways,
+      subst₂ (λ z e. Leads z (get_or e 0 0) three_ways (get_or e 1 0)) (sym is) (sym ends) leads,
+      omega arith,
+    )
+
 pub returns-clause-ground : goal.returns-clause-ground
 returns-clause-ground c = row_ground _ _ _ _ (c.new-crosses.ensures ∙ c.in_ok-from_slice.ensures.items) refl
     (c.new-part.ensures ∙ c.in_ok-from_slice-3.ensures.items) (refl, refl, refl) (refl, refl, refl) (refl, refl, refl)
@@ -70,3 +95,6 @@ returns-clause-ground c = row_ground _ _ _ _ (c.new-crosses.ensures ∙ c.in_ok-
 pub returns-clause-seats : goal.returns-clause-seats
 returns-clause-seats c = row_seats _ _ (c.new-odd.ensures ∙ c.in_ok-from_slice-2.ensures.items) refl
     (c.new-part.ensures ∙ c.in_ok-from_slice-3.ensures.items)
+
+pub returns-clause-chain : goal.returns-clause-chain
+returns-clause-chain c = row_chain _ _ (c.new-crosses.ensures ∙ c.in_ok-from_slice.ensures.items) (c.new-odd.ensures ∙ c.in_ok-from_slice-2.ensures.items)

@@ -5,6 +5,7 @@ use Rattle.dpl_tree.specs.steps.Growth.{AreRoots}
 use Rattle.dpl_flood.specs.Holdings.{Holding}
 use Rattle.dpl_flood.proofs.TreedLemmas.{forest_begun}
 use Rattle.dpl_flood.proofs.BeginLemmas.{begun}
+use Rattle.dpl_flood.proofs.RunLemmas.{begun_roots}
 use Rattle.dpl_flood.proofs.state.State.start.Goals as goal
 
 pub returns-clause-begun : goal.returns-clause-begun
@@ -20,3 +21,9 @@ returns-clause-forest c = forest_begun c.args.dual.now _ c.args.faces.now c.in_o
     (c.new-seats.ensures ∙ c.in_ok-from_slice.ensures.items) c.in_ok-seat_all.ensures
     (subst (λ z. AreRoots (sets_of c.in_ok-family.family) z c.in_ok-tree.tree) c.as_slice.ensures.value c.in_ok-tree.ensures)
     c.in_ok-members.ensures.length c.in_ok-members.ensures.each c.in_ok-mates.ensures c.new-4.ensures
+
+pub returns-clause-roots : goal.returns-clause-roots
+returns-clause-roots c = begun_roots (length c.args.faces.now) (sets_of c.in_ok-family.family) c.in_ok-tree.tree c.in_ok-members.members.items
+    c.in_ok-mates.mates.items c.in_ok-family.ensures.singles
+    (subst (λ z. AreRoots (sets_of c.in_ok-family.family) z c.in_ok-tree.tree) c.as_slice.ensures.value c.in_ok-tree.ensures)
+    c.in_ok-members.ensures.length c.in_ok-members.ensures.each

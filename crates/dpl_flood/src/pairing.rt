@@ -1,0 +1,78 @@
+//! Moats around odd faces, from the beginning to the end.
+
+ghost use Rattle.std.specs.Prelude.{◌≡◌, ◌<◌, ◌≤◌, ◌%◌, ◌^◌, ℕ, All, length, slice_index, IfOk, OnOk};
+ghost use Rattle.dpl_laminar.specs.Families.{load_of};
+ghost use Rattle.dpl_laminar.specs.Pairings.{IsPairing, pairs_sum};
+ghost use Rattle.dpl_laminar.specs.Storing.{sets_of};
+ghost use Rattle.dpl_tree.specs.steps.Forests.{free};
+ghost use Rattle.dpl_pack.specs.Floods.{AreTight};
+ghost use Rattle.dpl_flood.specs.Flips.{AreJoinedBy, AreOverChains};
+ghost use Rattle.dpl_flood.specs.Forested.{IsForested, trees_of};
+ghost use Rattle.dpl_flood.specs.Starts.{AreSeats};
+ghost use Rattle.dpl_flood.specs.States.{IsGround, IsState};
+ghost use Rattle.dpl_flood.specs.Steps.{step_rows};
+
+use crate::beginning::first_keys;
+use crate::ending::finish;
+use crate::running::run;
+use crate::state::State;
+use crate::ways::Step;
+use dpl_dual::Dual;
+use dpl_laminar::Steps;
+use dpl_list::Grouped;
+use std::alloc::{AllocError, Global};
+use std::sync::ledger::Ledger;
+
+/// The moats around an even number of faces of one part, grown until each face has its mate.
+fn grow_all<L: Ledger>(
+    alloc: Global,
+    dual: &Dual,
+    ways: &Grouped<Step>,
+    faces: &[u32],
+    steps: &mut Steps<L>,
+) -> Result<State, AllocError>
+    requires ground { IsGround dual.now }
+    requires seats { AreSeats dual.now faces.now }
+    requires even { length faces.now % 2 ≡ 0 }
+    requires near { AreOverChains dual.now.crosses faces.now (λ s t. 2 ^ 51) }
+    requires ways { ways.now ≡ step_rows dual.now.crosses dual.now.faces }
+    ensures forest { IfOk result (IsForested dual.now) }
+    ensures none { IfOk result (λ x. (i : ℕ) → (trees_of x).place i ≡ free) }
+    ensures seats { IfOk result (λ x. x.seats ≡ faces.now) }
+{
+    let mut state = State::start(alloc, dual, faces)?;
+    let mut queue = first_keys(alloc, &state, dual, ways)?;
+    run(alloc, &mut state, dual, ways, &mut queue, steps)?;
+    Ok(state)
+}
+
+/// The moats around an even number of faces of one part, grown until each face has its mate, and the mates. The faces of
+/// each pair are joined along a chain, and no pairing over chains is shorter.
+pub fn pair_faces<L: Ledger>(
+    alloc: Global,
+    dual: &Dual,
+    ways: &Grouped<Step>,
+    faces: &[u32],
+    joined: &mut [bool],
+    steps: &mut Steps<L>,
+) -> Result<(State, Vec<u32>), AllocError>
+    requires ground { IsGround dual.now }
+    requires seats { AreSeats dual.now faces.now }
+    requires even { length faces.now % 2 ≡ 0 }
+    requires near { AreOverChains dual.now.crosses faces.now (λ s t. 2 ^ 51) }
+    requires ways { ways.now ≡ step_rows dual.now.crosses dual.now.faces }
+    requires places { All (λ x. x.edge < length joined.old) dual.now.crosses }
+    ensures state { IfOk result (λ r. IsState dual.now r.0) }
+    ensures seats { IfOk result (λ r. r.0.seats ≡ faces.now) }
+    ensures count { IfOk result (λ r. length r.1.items ≡ length faces.now) }
+    ensures tight { IfOk result (λ r. AreTight dual.now faces.now (sets_of r.0.family) (slice_index r.1.items)) }
+    ensures joined { IfOk result (λ r. AreJoinedBy dual.now faces.now (sets_of r.0.family) joined.old joined.new) }
+    ensures least { (other : ℕ → ℕ) (long : ℕ → ℕ → ℕ) → IsPairing (length faces.now) other →
+        AreOverChains dual.now.crosses faces.now long →
+        IfOk result (λ r. pairs_sum (length faces.now) (slice_index r.1.items) (load_of (sets_of r.0.family))
+        ≤ pairs_sum (length faces.now) other long) }
+{
+    let mut state = grow_all(alloc, dual, ways, faces, steps)?;
+    let mate = finish(alloc, dual, &mut state, joined)?;
+    Ok((state, mate))
+}
