@@ -203,17 +203,6 @@ thawed n e x y looked place room gain loss at = record {
   within = λ w _ _ _ s. inl (place (e.one w) ∙ s ∙ sym (place (e.two w)));
 }
 
--- one top rests no more, and its faces are looked at
-pub roused : (n : ℕ) (e : Sides) (x y : Tide) (looked : ℕ → Bool) (p : ℕ) → ((g : ℕ) → y.place g ≡ x.place g)
-    → ((w : ℕ) → y.room w ≡ x.room w) → ((k : ℕ) → y.gain k ≡ x.gain k) → ((k : ℕ) → y.loss k ≡ x.loss k)
-    → ((k : ℕ) → k ≢ p → y.rests k ≡ x.rests k) → ((g : ℕ) → looked g ≡ false → x.place g ≢ p) → Turns n e x y looked
-roused n e x y looked p place room gain loss rest at = record {
-  room = λ w _. room w;
-  calm = λ g u. calm_same x y g (place g) (omega (arith, gain (x.place g))) (inl (omega (arith, loss (x.place g))))
-      (λ r. rest (x.place g) (at g u) ∙ r);
-  within = λ w _ _ _ s. inl (place (e.one w) ∙ s ∙ sym (place (e.two w)));
-}
-
 -- take and leave: one face comes to a top or goes, and is looked at. One way has it on both sides or on one.
 pub moved : (n : ℕ) (e : Sides) (x y : Tide) (looked : ℕ → Bool) (h : ℕ) → ((g : ℕ) → g ≢ h → y.place g ≡ x.place g)
     → ((w : ℕ) → y.room w ≡ x.room w) → ((k : ℕ) → y.gain k ≡ x.gain k) → ((k : ℕ) → y.loss k ≡ x.loss k)

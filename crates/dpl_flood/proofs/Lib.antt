@@ -23,6 +23,7 @@ pub mod ToldLemmas
 pub mod PopLemmas
 pub mod StandingLemmas
 pub mod HoldingLemmas
+mod StampedLemmas
 pub mod LookLemmas
 pub mod StateLemmas
 pub mod ShiftLemmas

@@ -1,8 +1,8 @@
 -- Keys around all faces of a top while they are set anew.
-use Rattle.std.proofs.Common.{arith, ◌≡◌, ℕ, ◌+◌, ◌*◌, ◌<◌, ◌⊎◌, refl, sym, ap, ◌∙◌, ◌-◌, suc, subst, inl, inr, true, List, [], ◌∷◌, length, get_or}
+use Rattle.std.proofs.Common.{arith, ◌≡◌, ℕ, ◌+◌, ◌*◌, ◌<◌, ◌⊎◌, refl, sym, ap, ◌∙◌, ◌-◌, suc, subst, inl, inr, true, false, Bool, List, [], ◌∷◌, length, get_or}
 use Rattle.std.specs.Prelude.{reverse, All}
 use Rattle.std.proofs.lemmas.Bool.{cases_eq, cases_lt, true≢false}
-use Rattle.std.proofs.lemmas.List.{get_or-reverse, length-reverse, get_or_default}
+use Rattle.std.proofs.lemmas.List.{get_or-reverse, length-reverse, get_or_default, get_or_past}
 use Rattle.dpl_laminar.proofs.Numbers.{has_tail, has_at}
 use Rattle.dpl_pack.proofs.PointLemmas.{on_water}
 use Rattle.dpl_laminar.specs.Families.{has}
@@ -12,7 +12,7 @@ use Rattle.dpl_pack.specs.Tides.{place_of}
 use Rattle.dpl_flood.specs.declared.state.State.{State}
 use Rattle.dpl_flood.specs.Holdings.{stack_of}
 use Rattle.dpl_flood.specs.Seas.{Sea}
-use Rattle.dpl_flood.specs.States.{sea_of, IsState, IsWayFrom, AreKeyedAround, AreKeyedOn, AreKeyedFor, SeatsOn, StacksOn}
+use Rattle.dpl_flood.specs.States.{sea_of, IsState, IsWayFrom, AreKeyedAround, AreKeyedOn, AreKeyedFor, SeatsOn, StacksOn, SeatsAmong, StacksAmong, stands_among}
 use Rattle.dpl_flood.proofs.LookLemmas.{around_either}
 use Rattle.dpl_flood.proofs.ShoreLemmas.{cases_point}
 
@@ -166,6 +166,54 @@ one_seat_more s seats top i g m = elim (cases_lt m.0 i) [
 pub one_stack_more : (s : Sea) (stack : ℕ → List ℕ) (top i g : ℕ) → StacksOn s stack top (i + 1) g
     → StacksOn s stack top i g ⊎ ((has (stack i) g ≡ true) × (place_of s.sets (s.point g) ≡ top))
 one_stack_more s stack top i g m = elim (cases_lt m.0 i) [
+  | inl l ↦ inl (m.0, (l, m.1.1))
+  | inr h ↦
+      let e : m.0 ≡ i = omega (arith, h, m.1.0) in
+      inr (sym (ap (λ z. has (stack z) g) e) ∙ m.1.1.0, m.1.1.1)
+]
+
+-- ---- the faces of some tops
+
+-- Each face of these tops is the seat of a member of theirs, or one that a set of theirs took.
+pub on_tops : (d : Dual) (x : State) (tops : List Bool) (g : ℕ) → IsState d x → length tops ≡ 2 * (sets_of x.family).size
+    → stands_among (sea_of x) tops g ≡ true
+    → SeatsAmong (sea_of x) x.seats tops (sets_of x.family).size g ⊎ StacksAmong (sea_of x) (stack_of x.held) tops (2 * (sets_of x.family).size) g
+on_tops d x tops g st many y =
+    let s = sea_of x in
+    let f = sets_of x.family in
+    let top = place_of f (s.point g) in
+    elim (cases_lt top (2 * f.size)) [
+      | inr high ↦ absurd (true≢false (sym y ∙ get_or_past tops top false (omega (arith, high, many))))
+      | inl low ↦ elim (on_top d x top g st low refl) [
+        | inl a ↦ inl (a.0, (a.1.0, (ap (λ z. get_or tops z false) a.1.1.0 ∙ y, a.1.1.1)))
+        | inr b ↦ inr (b.0, (b.1.0, (b.1.1.0, y)))
+      ]
+    ]
+
+-- All faces of these tops are looked at.
+pub all_among : (d : Dual) (x : State) (tops : List Bool) (old between new : List ℕ) → IsState d x → length tops ≡ 2 * (sets_of x.family).size
+    → AreKeyedFor d (sea_of x) (SeatsAmong (sea_of x) x.seats tops (sets_of x.family).size) old between
+    → AreKeyedFor d (sea_of x) (StacksAmong (sea_of x) (stack_of x.held) tops (2 * (sets_of x.family).size)) between new
+    → AreKeyedFor d (sea_of x) (λ g. stands_among (sea_of x) tops g ≡ true) old new
+all_among d x tops old between new st many a b =
+    for_more d (sea_of x) (SeatsAmong (sea_of x) x.seats tops (sets_of x.family).size)
+    (StacksAmong (sea_of x) (stack_of x.held) tops (2 * (sets_of x.family).size))
+    (λ g. stands_among (sea_of x) tops g ≡ true) old between new a b (λ g. on_tops d x tops g st many)
+
+-- one seat more, if its member has one of these tops
+pub one_seat_among : (s : Sea) (seats : List ℕ) (tops : List Bool) (i g : ℕ) → SeatsAmong s seats tops (i + 1) g
+    → SeatsAmong s seats tops i g ⊎ ((get_or tops (s.sets.top i) false ≡ true) × (g ≡ get_or seats i 0))
+one_seat_among s seats tops i g m = elim (cases_lt m.0 i) [
+  | inl l ↦ inl (m.0, (l, m.1.1))
+  | inr h ↦
+      let e : m.0 ≡ i = omega (arith, h, m.1.0) in
+      inr (ap (λ z. get_or tops (s.sets.top z) false) (sym e) ∙ m.1.1.0, sym m.1.1.1 ∙ ap (λ z. get_or seats z 0) e)
+]
+
+-- one stack more, if it stands on one of them
+pub one_stack_among : (s : Sea) (stack : ℕ → List ℕ) (tops : List Bool) (i g : ℕ) → StacksAmong s stack tops (i + 1) g
+    → StacksAmong s stack tops i g ⊎ ((has (stack i) g ≡ true) × (stands_among s tops g ≡ true))
+one_stack_among s stack tops i g m = elim (cases_lt m.0 i) [
   | inl l ↦ inl (m.0, (l, m.1.1))
   | inr h ↦
       let e : m.0 ≡ i = omega (arith, h, m.1.0) in

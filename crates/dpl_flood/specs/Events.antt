@@ -1,5 +1,5 @@
 -- What comes next of moats, as the first key tells it.
-use Rattle.std.specs.Prelude.{◌≡◌, ◌≢◌, ℕ, ◌-◌, ◌*◌, ◌%◌, ◌<◌, ◌⊎◌, true, false, None, if◌then◌else◌, nat_lt, List, [], length, slice_index, slice_index_or}
+use Rattle.std.specs.Prelude.{◌≡◌, ◌≢◌, ℕ, ◌-◌, ◌*◌, ◌%◌, ◌<◌, ◌⊎◌, true, false, None, if◌then◌else◌, nat_lt, List, [], length, slice_index}
 use Rattle.dpl_laminar.specs.Storing.{sets_of}
 use Rattle.dpl_dual.specs.declared.crosses.Dual.{Dual}
 use Rattle.dpl_dual.specs.Duals.{way_at}
@@ -9,11 +9,10 @@ use Rattle.dpl_flood.specs.declared.event.Event.{Event}
 use Rattle.dpl_flood.specs.declared.event.Event.TheVariants.{Take, Grow, Meet, Leave, GiveWay}
 use Rattle.dpl_flood.specs.declared.state.State.{State}
 use Rattle.dpl_flood.specs.Arenas.{IsOver}
-use Rattle.dpl_flood.specs.Forested.{IsSameForest}
 use Rattle.dpl_flood.specs.Holdings.{stack_of}
 use Rattle.dpl_flood.specs.Queues.{never}
 use Rattle.dpl_flood.specs.Seas.{Sea, HaveMet, HasReached, Drops, due_of, early_keys}
-use Rattle.dpl_flood.specs.States.{IsState, AreKeys, sea_of, fall_of}
+use Rattle.dpl_flood.specs.States.{sea_of, fall_of}
 
 -- a top that grows has come over a way to a face in open water
 pub record Reaches (d : Dual) (x : State) (c : Crossing) : Type 0 where
@@ -81,15 +80,3 @@ pub record MayGrow (s : Sea) (inner outer : ℕ) : Type 0 where
   pub awake : s.rests inner ≡ false
   pub tops : (k : ℕ) → (k ≡ inner) ⊎ (k ≡ outer) → (k < 2 * s.sets.size) × ((s.sets.live k ≡ true) × (s.sets.parent k ≡ None))
   pub pace : (t : ℕ) → t < s.sets.size → (s.sets.top t ≡ inner) ⊎ (s.sets.top t ≡ outer) → total_at s.sets t % 2 ≡ s.time % 2
-
--- ---- while what rests wakes; no public clause speaks of what follows
-
--- the first of so many sets rest no more
-pub record IsThawing (d : Dual) (x : State) (sets : ℕ) (y : State) (current : List ℕ) (count : ℕ) : Type 0 where
-  pub state : IsState d y
-  pub keys : AreKeys d y current
-  pub many : sets ≡ 2 * (sets_of x.family).size
-  pub same : IsRelabelled x y
-  pub labels : y.tree ≡ x.tree
-  pub forest : IsSameForest x y
-  pub awake : (k : ℕ) → k < count → slice_index_or y.rests.items k false ≡ false

@@ -1,7 +1,8 @@
 -- Which chain holds each face, and which faces each set took.
-use Rattle.std.specs.Prelude.{ℕ, Option, Some, None, List, [], ◌∷◌, slice_index_or, slice_set}
+use Rattle.std.specs.Prelude.{ℕ, ◌==◌, if◌then◌else◌, Option, Some, None, List, [], ◌∷◌, slice_index_or, slice_set}
 use Rattle.dpl_pack.specs.Points.{Point, water, on}
 use Rattle.dpl_flood.specs.declared.nodes.Node.{Node}
+use Rattle.dpl_flood.specs.declared.stamped.Entry.{Entry}
 use Rattle.dpl_flood.specs.Arenas.{node_at}
 
 -- by face the node of the chain that holds it, and by set the faces that it took, the last one first
@@ -35,3 +36,7 @@ point_at nodes (Some a) = on (node_at nodes a).member (node_at nodes a).far
 -- where a face stands
 abbrev pub point_of : List Node → Holding → ℕ → Point
 point_of nodes x g = point_at nodes (node_of x g)
+
+-- what an entry has under a stamp
+abbrev pub number_under : ℕ → Entry → Option ℕ
+number_under stamp entry = if entry.stamp == stamp then Some entry.number else None

@@ -9,6 +9,7 @@ pub mod DueLaws
 pub mod Rates
 pub mod TreeLaws
 pub mod Holdings
+pub mod Listings
 pub mod Standings
 pub mod States
 pub mod Forested

@@ -27,11 +27,13 @@ pub record IsSet (x y : ℕ → ℕ) (h : ℕ) : Type 0 where
 
 pub record IsHeap (count : ℕ) (xs : List ℕ) : Type 0 where
   pub sizes : length xs ≡ 2 * count
+  pub most : (j : ℕ) → slice_index xs j ≤ never
   pub least : IsLeast count (slice_index xs)
 
 -- the key of one place was written, and all is well but at one number above it
 pub record IsClimbing (count place key : ℕ) (old xs : List ℕ) (here : ℕ) : Type 0 where
   pub sizes : length xs ≡ 2 * count
+  pub most : (j : ℕ) → slice_index xs j ≤ never
   pub some : 0 < here
   pub inside : here < 2 * count
   pub least : (h : ℕ) → (here ≡ 2 * h) ⊎ (here ≡ 2 * h + 1) → IsLeastBut count (slice_index xs) h

@@ -1,5 +1,5 @@
 -- The state of moats that grow, and the keys of ways and sets.
-use Rattle.std.specs.Prelude.{true, ◌≡◌, ◌≢◌, ℕ, ◌+◌, ◌*◌, ◌%◌, ◌^◌, ◌<◌, ◌≤◌, ◌==◌, ◌⊎◌, if◌then◌else◌, false, Some, List, ◌∷◌, length, slice_index, slice_index_or, All}
+use Rattle.std.specs.Prelude.{true, ◌≡◌, ◌≢◌, ℕ, ◌+◌, ◌*◌, ◌%◌, ◌^◌, ◌<◌, ◌≤◌, ◌==◌, ◌⊎◌, if◌then◌else◌, Bool, false, Some, List, ◌∷◌, length, slice_index, slice_index_or, All}
 use Rattle.dpl_laminar.specs.Families.{has}
 use Rattle.dpl_laminar.specs.Storing.{sets_of}
 use Rattle.dpl_dual.specs.declared.crosses.Dual.{Dual}
@@ -138,3 +138,15 @@ SeatsOn s seats top count g = (t : ℕ) × ((t < count) × ((s.sets.top t ≡ to
 -- the faces on the stacks of the first sets, as far as these stand on a top
 abbrev pub StacksOn : Sea → (ℕ → List ℕ) → ℕ → ℕ → ℕ → Type 0
 StacksOn s stack top count g = (k : ℕ) × ((k < count) × ((has (stack k) g ≡ true) × (place_of s.sets (s.point g) ≡ top)))
+
+-- a face stands on one of these tops
+abbrev pub stands_among : Sea → List Bool → ℕ → Bool
+stands_among s tops g = slice_index_or tops (place_of s.sets (s.point g)) false
+
+-- the seats of the first members, as far as these have one of these tops
+abbrev pub SeatsAmong : Sea → List ℕ → List Bool → ℕ → ℕ → Type 0
+SeatsAmong s seats tops count g = (t : ℕ) × ((t < count) × ((slice_index_or tops (s.sets.top t) false ≡ true) × (slice_index seats t ≡ g)))
+
+-- the faces on the stacks of the first sets, as far as these stand on one of these tops
+abbrev pub StacksAmong : Sea → (ℕ → List ℕ) → List Bool → ℕ → ℕ → Type 0
+StacksAmong s stack tops count g = (k : ℕ) × ((k < count) × ((has (stack k) g ≡ true) × (stands_among s tops g ≡ true)))

@@ -14,8 +14,10 @@ ghost use Rattle.dpl_flood.specs.Steps.{step_rows};
 use crate::arena::Arena;
 use crate::held::Held;
 use crate::joins::Joins;
+use crate::keys::Keys;
 use crate::looks::look_around;
 use crate::queue::Queue;
+use crate::stamped::Stamped;
 use crate::state::State;
 use crate::ways::Step;
 use dpl_dual::Dual;
@@ -60,8 +62,14 @@ fn no_mates(alloc: Global, size: usize) -> Result<Vec<Option<u32>>, AllocError>
 }
 
 impl State {
-    /// The beginning: a member for each of these faces, at time 0. It costs the faces of the dual and the square of the members.
-    pub fn start(alloc: Global, dual: &Dual, faces: &[u32]) -> Result<State, AllocError>
+    /// The beginning: a member for each of these faces, at time 0, with nodes and places that are lent.
+    pub fn start(
+        alloc: Global,
+        dual: &Dual,
+        faces: &[u32],
+        nodes: Arena,
+        places: Stamped,
+    ) -> Result<State, AllocError>
         requires ground { IsGround dual.now }
         requires seats { AreSeats dual.now faces.now }
         ensures begun { IfOk result (HasBegun dual.now) }
@@ -71,8 +79,9 @@ impl State {
         ensures low { IfOk result (λ x. AreRanked (trees_of x) 0) }
     {
         let size = faces.len();
-        let mut arena = Arena::new(alloc, dual.faces)?;
-        let mut held = Held::new(alloc, dual.faces as usize, 2 * size)?;
+        let mut arena = nodes;
+        arena.clear();
+        let mut held = Held::new(alloc, places, dual.faces as usize, 2 * size)?;
         seat_all(&mut arena, &mut held, faces)?;
         let family = Family::new(alloc, size as u32)?;
         let members = members_below(alloc, size)?;
@@ -109,12 +118,13 @@ fn look_at_all(state: &State, dual: &Dual, steps: &Grouped<Step>, faces: &[u32],
     }
 }
 
-/// The keys at the beginning: those of the ways at seats. It costs the ways.
+/// The keys at the beginning: those of the ways at seats, at places that are lent.
 pub fn first_keys(
     alloc: Global,
     state: &State,
     dual: &Dual,
     steps: &Grouped<Step>,
+    lent: Keys,
 ) -> Result<Queue, AllocError>
     requires begun { HasBegun dual.now state.now }
     requires steps { steps.now ≡ step_rows dual.now.crosses dual.now.faces }
@@ -122,7 +132,7 @@ pub fn first_keys(
 {
     let ways = dual.crosses.as_slice().len();
     let faces = state.seats.as_slice();
-    let mut queue = Queue::new(alloc, ways + 2 * faces.len())?;
+    let mut queue = Queue::new(alloc, lent, ways, 2 * faces.len())?;
     look_at_all(state, dual, steps, faces, &mut queue);
     Ok(queue)
 }

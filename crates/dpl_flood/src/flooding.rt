@@ -9,7 +9,8 @@ ghost use Rattle.dpl_flood.specs.States.{IsGround};
 ghost use Rattle.dpl_flood.specs.Steps.{step_rows};
 
 use crate::holders::held_faces;
-use crate::pairing::pair_faces;
+use crate::lent::Lent;
+use crate::pairing::{Paired, pair_faces};
 use crate::state::State;
 use crate::ways::Step;
 use dpl_dual::Dual;
@@ -19,20 +20,22 @@ use dpl_pack::Held;
 use std::alloc::{AllocError, Global};
 use std::sync::ledger::Ledger;
 
-/// A family over odd faces of one part, and the faces that its members hold, by which its moats are laid.
+/// A family over odd faces of one part, the faces that its members hold, by which its moats are laid, and what was lent.
 #[derive(Drop)]
 pub struct Grown {
     pub family: Family,
     pub held: Vec<Held>,
+    pub lent: Lent,
 }
 
 /// Joins an even number of faces of one part in pairs, along chains which are together as long as a family of sets of these
-/// faces weighs, and gives that family with the faces that its members hold.
+/// faces weighs, and gives that family with the faces that its members hold. It costs the part alone.
 pub fn flood<L: Ledger>(
     alloc: Global,
     dual: &Dual,
     ways: &Grouped<Step>,
     faces: &[u32],
+    lent: Lent,
     joined: &mut [bool],
     steps: &mut Steps<L>,
 ) -> Result<Grown, AllocError>
@@ -46,8 +49,21 @@ pub fn flood<L: Ledger>(
     ensures joined { IfOk result (λ r. AreJoinedBy dual.now faces.now (sets_of r.family) joined.old joined.new) }
     ensures flood { IfOk result (λ r. IsFloodOf dual.now faces.now (sets_of r.family) r.held.items) }
 {
-    let (state, _mate) = pair_faces(alloc, dual, ways, faces, joined, steps)?;
-    let held = held_faces(alloc, dual, &state)?;
-    let State { family, .. } = state;
-    Ok(Grown { family, held })
+    let Paired { state, keys, .. } = pair_faces(alloc, dual, ways, faces, lent, joined, steps)?;
+    let found = held_faces(alloc, dual, &state)?;
+    let State {
+        family,
+        arena,
+        held,
+        ..
+    } = state;
+    Ok(Grown {
+        family,
+        held: found,
+        lent: Lent {
+            nodes: arena,
+            places: held.give_back(),
+            keys,
+        },
+    })
 }

@@ -3,6 +3,7 @@
 ghost use Rattle.std.specs.Prelude.{◌≡◌, ◌<◌, ℕ, List, ◌∷◌, [], None, Some, IfOk, OnOk, OnErr, MatchOption, length, replicate, reverse, slice_index_or, slice_set};
 ghost use Rattle.dpl_flood.specs.Holdings.{node_of, stack_of, seated, pushed, popped};
 
+use crate::stamped::Stamped;
 use std::alloc::{AllocError, Global};
 use std::marker::Model;
 
@@ -67,7 +68,7 @@ impl Stack {
 /// By face the node of the chain that holds it, and by set the faces that it took.
 #[derive(Drop)]
 pub struct Held {
-    nodes: Vec<Option<u32>>,
+    nodes: Stamped,
     stacks: Vec<Stack>,
 }
 
@@ -76,7 +77,7 @@ impl Model for Held {
 
     ghost Value = { Holding };
 
-    ghost view = { λ h. record { nodes = h.nodes.items; stacks = h.stacks.items } };
+    ghost view = { λ h. record { nodes = h.nodes; stacks = h.stacks.items } };
 }
 
 /// So many stacks without faces.
@@ -112,24 +113,26 @@ fn pop_from(stacks: &mut [Stack], set: usize) -> Option<u32>
 }
 
 impl Held {
-    /// All faces are in open water.
-    pub fn new(alloc: Global, faces: usize, sets: usize) -> Result<Held, AllocError>
+    /// All faces are in open water. It costs the sets, and the faces where the places that are lent are not so many.
+    pub fn new(alloc: Global, lent: Stamped, faces: usize, sets: usize) -> Result<Held, AllocError>
         ensures { IfOk result (λ h. h ≡ record { nodes = replicate faces None; stacks = replicate sets [] }) }
     {
         Ok(Held {
-            nodes: vec![in alloc; None; faces]?,
+            nodes: lent.forgotten(alloc, faces)?,
             stacks: no_faces(alloc, sets)?,
         })
+    }
+
+    /// The places of the faces, for another part.
+    pub fn give_back(self) -> Stamped {
+        self.nodes
     }
 
     /// The node of the chain that holds a face: none in open water.
     pub fn node(&self, face: u32) -> Option<u32>
         ensures { result ≡ node_of self.now face }
     {
-        match self.nodes.get(face as usize) {
-            Some(node) => *node,
-            None => None,
-        }
+        self.nodes.get(face as usize)
     }
 
     /// The face that a set took last.
@@ -154,7 +157,7 @@ impl Held {
         requires { face < length self.old.nodes }
         ensures { self.new ≡ seated self.old face node }
     {
-        self.nodes[face as usize] = Some(node);
+        self.nodes.put(face as usize, node);
     }
 
     /// A set takes a face by a chain.
@@ -165,7 +168,7 @@ impl Held {
         ensures err { OnErr result (self.new ≡ self.old) }
     {
         push_on(&mut self.stacks, set as usize, face)?;
-        self.nodes[face as usize] = Some(node);
+        self.nodes.put(face as usize, node);
         Ok(())
     }
 
@@ -178,7 +181,7 @@ impl Held {
     {
         match pop_from(&mut self.stacks, set as usize) {
             Some(face) => {
-                self.nodes[face as usize] = None;
+                self.nodes.take(face as usize);
                 Some(face)
             }
             None => None,

@@ -1,5 +1,9 @@
-//! Moats that grow around all odd faces of a part at once: their state, when something comes next, what each event keeps,
-//! and the parts of a program that stand by themselves.
+//! Moats that grow around all odd faces of a part at once, until these are joined in pairs.
+//!
+//! `flood` is what callers need: it joins the faces along chains which are together as long as a family of sets weighs, no
+//! load of which is above a chain, and tells the faces that the sets hold, by which `dpl_pack` lays moats. A `Lent` is made
+//! once for a dual and lent to one part after another, so that a part costs its own size. All else serves to grow moats:
+//! their state, when something comes next, what each event keeps, and how it ends.
 //!
 //! Each odd face begins as the seat of a member, the root of a tree of its own. Outer tops of trees grow, inner ones fall,
 //! all others rest, and between two events nothing else changes: these are the dual changes of Edmonds' matching, in
@@ -11,11 +15,12 @@
 //! two, where tops that grow have met, `close` makes one top around a single that has come to nothing, and `give_way` takes
 //! a top away that fell and has nothing left. `run` goes on so until no tree is left, and `finish` joins the faces of each
 //! pair. `pair_faces` is all of this, from the faces to their mates: they are tight, so no pairing over chains is shorter.
+//! `held_faces` tells the faces that a state holds.
 //!
-//! `Queue` has a key for each place and answers the least one. `Arena` keeps chains for good: a node is the last way of a
-//! chain from the seat of a member to a face, and nodes are only added. A `Join` is two such chains and a way between
-//! them, so it is a chain from seat to seat. `Joins` has one for any two members that are joined. `steps_at` gives the
-//! ways at each face, with their numbers. `flood` is what `dpl_solve` is to run on; it does not yet.
+//! `Queue` has a key for each way and each set and answers the least one. `Arena` keeps the chains of a part: a node is the
+//! last way of a chain from the seat of a member to a face, and nodes are only added. A `Join` is two such chains and a way
+//! between them, so it is a chain from seat to seat. `Joins` has one for any two members that are joined. `steps_at` gives
+//! the ways at each face, with their numbers.
 #![tactic(auto)]
 
 mod arena;
@@ -34,7 +39,9 @@ mod giving;
 mod held;
 mod holders;
 mod joins;
+mod keys;
 mod laws;
+mod lent;
 mod looks;
 mod meeting;
 mod nodes;
@@ -48,11 +55,13 @@ mod searching;
 mod settling;
 mod shifting;
 mod shores;
+mod stamped;
 mod standing;
 mod state;
 mod sweeping;
 #[cfg(test)]
 mod tests;
+mod thawing;
 mod totals;
 mod turning;
 mod ways;
@@ -71,13 +80,15 @@ pub use giving::give_way;
 pub use held::Held;
 pub use holders::held_faces;
 pub use joins::{Joins, joins_are_far, joins_stay};
+pub use keys::Keys;
 pub use laws::{
     events_keep_seas, keys_tell_events, names_keep_time, stacks_tell_falls, states_keep_keys,
     time_keeps_seas, trees_move_tops,
 };
+pub use lent::Lent;
 pub use looks::{look_around, look_set, look_top, look_way};
 pub use nodes::{Join, Last, Node};
-pub use pairing::pair_faces;
+pub use pairing::{Paired, pair_faces};
 pub use pairs::{join_all, join_pairs};
 pub use passing::advance;
 pub use queue::Queue;
@@ -86,9 +97,10 @@ pub use running::{go_on, has_trees, run};
 pub use settling::meet;
 pub use shifting::{reach, retreat, shift};
 pub use shores::{leave, take};
+pub use stamped::Stamped;
 pub use standing::{Standing, due};
 pub use state::State;
 pub use std::alloc::AllocError as NoMemory;
 pub use sweeping::{come, sweep};
-pub use turning::thaw;
+pub use thawing::thaw;
 pub use ways::{Step, steps_at};

@@ -43,7 +43,7 @@ pub fn look_around(state: &State, dual: &Dual, steps: &Grouped<Step>, queue: &mu
 }
 
 /// Sets the keys of all ways at these faces anew.
-fn look_at(state: &State, dual: &Dual, steps: &Grouped<Step>, queue: &mut Queue, faces: &[u32])
+pub fn look_at(state: &State, dual: &Dual, steps: &Grouped<Step>, queue: &mut Queue, faces: &[u32])
     requires state { IsState dual.now state.now }
     requires steps { steps.now ≡ step_rows dual.now.crosses dual.now.faces }
     requires faces { All (λ g. g < dual.now.faces) faces.now }

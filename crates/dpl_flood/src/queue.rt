@@ -1,96 +1,58 @@
-//! A key for each place, and the least of them.
+//! The keys of ways and of sets, and the least of them.
 
-ghost use Rattle.std.specs.Prelude.{◌≡◌, ◌<◌, ◌*◌, ◌^◌, length, drop, slice_index, slice_set, replicate, IfOk};
-ghost use Rattle.dpl_flood.specs.Queues.{never, IsFirst, IsHeap};
+ghost use Rattle.std.specs.Prelude.{◌≡◌, ◌+◌, ◌<◌, ◌*◌, ◌^◌, length, slice_index, slice_set, replicate, IfOk};
+ghost use Rattle.dpl_flood.specs.Queues.{never, IsFirst};
 
+use crate::keys::Keys;
 use std::alloc::{AllocError, Global};
 use std::marker::Model;
 
-/// A key for each place. Contracts see the list of the keys.
+/// A key for each way and, behind these, for each set. Contracts see the list of the keys.
 ///
-/// The keys are the leaves of a tree in which each number is the lesser of the two below it. No key is ever out of date,
-/// and its memory is that of twice the places from the beginning to the end.
+/// The places of the ways are lent to one part after another, and those of the sets are its own.
 #[derive(Drop)]
 pub struct Queue {
-    count: usize,
-    least: Vec<u64>,
+    ways: Keys,
+    sets: Keys,
 }
 
 impl Model for Queue {
-    ghost use Rattle.std.specs.Prelude.{List, ℕ, drop};
-    ghost use Rattle.dpl_flood.specs.Queues.{IsHeap};
+    ghost use Rattle.std.specs.Prelude.{List, ℕ, ◌++◌};
 
     ghost Value = { List ℕ };
 
-    ghost view = { λ q. drop q.count q.least.items };
-
-    ghost invariant = { λ q. IsHeap q.count q.least.items };
+    ghost view = { λ q. q.ways ++ q.sets };
 }
 
-/// Writes the key of a place, and the numbers above it as far as they change.
-fn write(least: &mut [u64], count: usize, place: usize, key: u64)
-    requires heap { IsHeap count least.old }
-    requires place { place < count }
-    ensures heap { IsHeap count least.new }
-    ensures keys { drop count least.new ≡ slice_set (drop count least.old) place key }
+/// So many places whose keys are the greatest number: these, where they are so many.
+fn cleared(alloc: Global, keys: Keys, places: usize) -> Result<Keys, AllocError>
+    requires { 2 * places < 2 ^ 64 }
+    ensures { IfOk result (λ k. k ≡ replicate places never) }
 {
-    let mut here = count + place;
-    least[here] = key;
-    while here > 1 {
-        here = here / 2;
-        let lesser = least[2 * here].min(least[2 * here + 1]);
-        if least[here] == lesser {
-            return;
-        }
-        least[here] = lesser;
+    if keys.len() != places {
+        return Keys::new(alloc, places);
     }
-}
-
-/// The least key.
-fn root(least: &[u64], count: usize) -> u64
-    requires heap { IsHeap count least.now }
-    requires some { 0 < count }
-    ensures { IsFirst (drop count least.now) result }
-{
-    least[1]
-}
-
-/// A place that has the least key.
-fn place_of_root(least: &[u64], count: usize) -> usize
-    requires heap { IsHeap count least.now }
-    requires some { 0 < count }
-    ensures inside { result < count }
-    ensures first { IsFirst (drop count least.now) (slice_index (drop count least.now) result) }
-{
-    let mut here = 1;
-    while here < count {
-        let left = 2 * here;
-        here = if least[left] == least[here] {
-            left
-        } else {
-            left + 1
-        };
-    }
-    here - count
+    let mut keys = keys;
+    keys.clear();
+    Ok(keys)
 }
 
 impl Queue {
-    /// So many places whose keys are the greatest number. It costs the places.
-    pub fn new(alloc: Global, places: usize) -> Result<Queue, AllocError>
-        requires { 2 * places < 2 ^ 64 }
-        ensures { IfOk result (λ q. q ≡ replicate places never) }
+    /// So many ways and sets, whose keys are the greatest number. It costs the sets, and the keys that are to be cleared; where
+    /// the places that are lent are not those of so many ways, it costs the ways.
+    pub fn new(alloc: Global, lent: Keys, ways: usize, sets: usize) -> Result<Queue, AllocError>
+        requires ways { 2 * ways < 2 ^ 64 }
+        requires sets { 2 * sets < 2 ^ 64 }
+        ensures { IfOk result (λ q. q ≡ replicate (ways + sets) never) }
     {
-        Ok(Queue {
-            count: places,
-            least: vec![in alloc; u64::MAX; 2 * places]?,
-        })
+        let ways = cleared(alloc, lent, ways)?;
+        let sets = Keys::new(alloc, sets)?;
+        Ok(Queue { ways, sets })
     }
 
-    /// How many places there are.
-    pub fn len(&self) -> usize
-        ensures { result ≡ length self.now }
-    {
-        self.count
+    /// The places of the ways, for another part.
+    pub fn give_back(self) -> Keys {
+        self.ways
     }
 
     /// The key of a place.
@@ -98,7 +60,11 @@ impl Queue {
         requires { place < length self.now }
         ensures { result ≡ slice_index self.now place }
     {
-        self.least[self.count + place]
+        let ways = self.ways.len();
+        if place < ways {
+            return self.ways.key(place);
+        }
+        self.sets.key(place - ways)
     }
 
     /// Writes the key of a place. It costs at most a logarithm of the places, and less where little changes.
@@ -106,7 +72,12 @@ impl Queue {
         requires { place < length self.old }
         ensures { self.new ≡ slice_set self.old place key }
     {
-        write(&mut self.least, self.count, place, key);
+        let ways = self.ways.len();
+        if place < ways {
+            self.ways.set(place, key);
+        } else {
+            self.sets.set(place - ways, key);
+        }
     }
 
     /// The least key.
@@ -114,7 +85,7 @@ impl Queue {
         requires { 0 < length self.now }
         ensures { IsFirst self.now result }
     {
-        root(&self.least, self.count)
+        self.ways.least().min(self.sets.least())
     }
 
     /// A place that has the least key. It costs a logarithm of the places.
@@ -123,6 +94,10 @@ impl Queue {
         ensures inside { result < length self.now }
         ensures first { IsFirst self.now (slice_index self.now result) }
     {
-        place_of_root(&self.least, self.count)
+        let ways = self.ways.len();
+        if ways > 0 && self.ways.least() <= self.sets.least() {
+            return self.ways.place();
+        }
+        ways + self.sets.place()
     }
 }

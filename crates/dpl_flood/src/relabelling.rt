@@ -1,6 +1,6 @@
 //! Tops begin to grow or to fall, and rest no more. No moat moves.
 
-ghost use Rattle.std.specs.Prelude.{◌≡◌, ◌≢◌, ℕ, ◌*◌, ◌<◌, ◌^◌, false, List, Option, slice_index, slice_index_or};
+ghost use Rattle.std.specs.Prelude.{◌≡◌, ℕ, ◌*◌, ◌<◌, ◌^◌, false, List, Option, slice_index, slice_index_or, IfOk, OnOk, OnErr};
 ghost use Rattle.dpl_laminar.specs.Storing.{sets_of};
 ghost use Rattle.dpl_dual.specs.declared.crosses.Dual.{Dual};
 ghost use Rattle.dpl_tree.specs.steps.Forests as forests;
@@ -13,6 +13,8 @@ ghost use Rattle.dpl_flood.specs.Seas.{Grows};
 ghost use Rattle.dpl_flood.specs.States.{IsState, sea_of};
 
 use crate::state::State;
+use std::alloc::{AllocError, Global};
+use std::mem;
 
 /// A free top that was met at a member falls from now on, and that of the mate, which is paired with it, grows: both go into
 /// the tree of the one that met it.
@@ -39,17 +41,17 @@ pub fn grow(state: &mut State, from: u32, to: u32, mate: u32)
     state.rests[outer as usize] = false;
 }
 
-/// A set rests no more.
-pub fn rouse(state: &mut State, set: u32)
+/// No set rests any more: answers which sets did.
+pub fn rouse(alloc: Global, state: &mut State) -> Result<Vec<bool>, AllocError>
     requires state { (d : Dual) × IsState d state.old }
-    requires set { set < 2 * (sets_of state.old.family).size }
+    ensures woken { IfOk result (λ woken. woken.items ≡ state.old.rests.items) }
     ensures tree { state.new.tree ≡ state.old.tree }
     ensures same { IsSameForest state.old state.new }
-    ensures awake { slice_index_or state.new.rests.items set false ≡ false }
-    ensures others { (k : ℕ) → k ≢ set →
-        slice_index_or state.new.rests.items k false ≡ slice_index_or state.old.rests.items k false }
+    ensures awake { OnOk result ((k : ℕ) → slice_index_or state.new.rests.items k false ≡ false) }
     ensures rest { IsRelabelled state.old state.new }
     ensures state { (d : Dual) → IsState d state.old → IsState d state.new }
+    ensures err { OnErr result (state.new ≡ state.old) }
 {
-    state.rests[set as usize] = false;
+    let none = vec![in alloc; false; state.rests.len()]?;
+    Ok(mem::replace(&mut state.rests, none))
 }

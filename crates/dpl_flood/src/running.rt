@@ -102,7 +102,7 @@ pub fn go_on<L: Ledger>(
     ensures keys { OnOk result (AreKeys dual.now state.new queue.new) }
     ensures forward { OnOk result (IsForward state.old state.new) }
 {
-    let event = sweep(state, dual, ways, queue, steps)?;
+    let event = sweep(alloc, state, dual, ways, queue, steps)?;
     change(alloc, state, dual, ways, queue, event, steps)?;
     Ok(())
 }

@@ -10,7 +10,7 @@ ghost use Rattle.dpl_flood.specs.Holdings.{stack_of};
 ghost use Rattle.dpl_flood.specs.Queues.{never};
 ghost use Rattle.dpl_flood.specs.Seas.{due_of, span_of, span_at};
 ghost use Rattle.dpl_flood.specs.Standings.{StandsOn, IsStanding};
-ghost use Rattle.dpl_flood.specs.States.{IsState, sea_of, fall_of};
+ghost use Rattle.dpl_flood.specs.States.{IsState, sea_of, fall_of, stands_among};
 
 use crate::arena::Arena;
 use crate::held::Held;
@@ -120,6 +120,32 @@ impl State {
     {
         match self.held.last(set) {
             Some(face) => self.is_on(face, top),
+            None => false,
+        }
+    }
+
+    /// Whether a face stands on one of these tops.
+    fn is_among(&self, face: u32, tops: &[bool]) -> bool
+        requires state { (d : Dual) × IsState d self.now }
+        requires tops { length tops.now ≡ 2 * (sets_of self.now.family).size }
+        ensures { result ≡ stands_among (sea_of self.now) tops.now face }
+    {
+        match self.standing(face) {
+            Some(standing) => tops[standing.top as usize],
+            None => false,
+        }
+    }
+
+    /// Whether the faces that a set took stand on one of these tops.
+    pub fn is_stack_among(&self, set: u32, tops: &[bool]) -> bool
+        requires state { (d : Dual) × IsState d self.now }
+        requires set { set < 2 * (sets_of self.now.family).size }
+        requires tops { length tops.now ≡ 2 * (sets_of self.now.family).size }
+        ensures { (g : ℕ) → has (stack_of self.now.held set) g ≡ true →
+            result ≡ stands_among (sea_of self.now) tops.now g }
+    {
+        match self.held.last(set) {
+            Some(face) => self.is_among(face, tops),
             None => false,
         }
     }

@@ -16,12 +16,12 @@ use crate::passing::advance;
 use crate::queue::Queue;
 use crate::shifting::{reach, retreat};
 use crate::state::State;
-use crate::turning::thaw;
+use crate::thawing::thaw;
 use crate::ways::Step;
 use dpl_dual::Dual;
 use dpl_laminar::Steps;
 use dpl_list::Grouped;
-use std::alloc::AllocError;
+use std::alloc::{AllocError, Global};
 use std::sync::ledger::Ledger;
 
 /// What comes now: nothing where no key is up. Keys that were early are set anew.
@@ -78,19 +78,20 @@ fn next_later<L: Ledger>(
 
 /// What comes next, now or later. What rests wakes where nothing else comes now.
 pub fn come<L: Ledger>(
+    alloc: Global,
     state: &mut State,
     dual: &Dual,
     ways: &Grouped<Step>,
     queue: &mut Queue,
     steps: &mut Steps<L>,
-) -> Event
+) -> Result<Event, AllocError>
     requires state { IsState dual.now state.old }
     requires keys { AreKeys dual.now state.old queue.old }
     requires ways { ways.now ≡ step_rows dual.now.crosses dual.now.faces }
     requires some { 0 < length queue.old }
     requires two { AreTwo dual.now state.old }
-    ensures come { HasCome dual.now state.new result }
-    ensures swept { IsSwept state.old state.new }
+    ensures come { IfOk result (HasCome dual.now state.new) }
+    ensures swept { IfOk result (λ _. IsSwept state.old state.new) }
     ensures faces { faces_left dual.now (sea_of state.new) ≡ faces_left dual.now (sea_of state.old) }
     ensures state { IsState dual.now state.new }
     ensures forest { IsForested dual.now state.old → IsForested dual.now state.new }
@@ -98,19 +99,20 @@ pub fn come<L: Ledger>(
     ensures places { length queue.new ≡ length queue.old }
 {
     match next_now(state, dual, queue) {
-        Some(event) => return event,
+        Some(event) => return Ok(event),
         None => {}
     }
-    thaw(state, dual, ways, queue);
+    thaw(alloc, state, dual, ways, queue)?;
     match next_now(state, dual, queue) {
-        Some(event) => return event,
+        Some(event) => return Ok(event),
         None => {}
     }
-    next_later(state, dual, queue, steps)
+    Ok(next_later(state, dual, queue, steps))
 }
 
 /// Lets time pass and takes and leaves faces until a tree changes: answers by what.
 pub fn sweep<L: Ledger>(
+    alloc: Global,
     state: &mut State,
     dual: &Dual,
     ways: &Grouped<Step>,
@@ -130,7 +132,7 @@ pub fn sweep<L: Ledger>(
     ensures keys { AreKeys dual.now state.new queue.new }
 {
     'faces: loop {
-        let event = come(state, dual, ways, queue, steps);
+        let event = come(alloc, state, dual, ways, queue, steps)?;
         match event {
             Event::Take(ahead) => reach(state, dual, ways, queue, ahead)?,
             Event::Leave(set) => retreat(state, dual, ways, queue, set),

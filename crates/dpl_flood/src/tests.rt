@@ -8,7 +8,10 @@ ghost use Rattle.dpl_flood.specs.States.{IsGround};
 
 use crate::giving::{look_tops, settle};
 use crate::totals::{add_tops, drop_tops};
-use crate::{Arena, Event, Held, Join, NoMemory, Queue, State, first_keys, meet, steps_at, sweep};
+use crate::{
+    Arena, Event, Held, Join, Keys, Lent, NoMemory, Queue, Stamped, State, first_keys, meet,
+    steps_at, sweep,
+};
 use dpl_dual::{Cross, Dual, Rows};
 use dpl_laminar::{Family, Steps};
 use dpl_list::{Grouped, Items};
@@ -32,7 +35,7 @@ fn way(f: u32, g: u32, length: u64) -> Cross
 
 /// The first key of five places, and its place, before and after one of them is set anew.
 fn least_keys(alloc: Global) -> Result<(u64, usize, u64, usize), NoMemory> {
-    let mut queue = Queue::new(alloc, 5)?;
+    let mut queue = Queue::new(alloc, Keys::new(alloc, 3)?, 3, 2)?;
     queue.set(3, 40);
     queue.set(1, 20);
     queue.set(4, 30);
@@ -45,6 +48,41 @@ fn least_keys(alloc: Global) -> Result<(u64, usize, u64, usize), NoMemory> {
 fn the_least_key_is_found(rt: HostRuntime) -> Result<(), NoMemory> {
     let found = least_keys(rt.alloc())?;
     assert_eq!(rt; found, (20, 1, 30, 4));
+    Ok(())
+}
+
+/// The first key of a part, and its place, where its keys are lent by a part that had a lesser one.
+fn lent_keys(alloc: Global) -> Result<(u64, usize), NoMemory> {
+    let mut queue = Queue::new(alloc, Keys::new(alloc, 3)?, 3, 2)?;
+    queue.set(0, 30);
+    queue.set(1, 20);
+    let mut queue = Queue::new(alloc, queue.give_back(), 3, 1)?;
+    queue.set(3, 40);
+    Ok((queue.first(), queue.place()))
+}
+
+#[test]
+fn keys_that_are_lent_are_cleared(rt: HostRuntime) -> Result<(), NoMemory> {
+    let found = lent_keys(rt.alloc())?;
+    assert_eq!(rt; found, (40, 3));
+    Ok(())
+}
+
+/// What a place has before all is forgotten, after that, and when it is written again.
+fn lent_numbers(alloc: Global) -> Result<(Option<u32>, Option<u32>, Option<u32>), NoMemory> {
+    let mut numbers = Stamped::new(alloc, 3)?;
+    numbers.put(1, 7);
+    let before = numbers.get(1);
+    let mut numbers = numbers.forgotten(alloc, 3)?;
+    let after = numbers.get(1);
+    numbers.put(1, 9);
+    Ok((before, after, numbers.get(1)))
+}
+
+#[test]
+fn places_that_are_lent_are_forgotten(rt: HostRuntime) -> Result<(), NoMemory> {
+    let numbers = lent_numbers(rt.alloc())?;
+    assert_eq!(rt; numbers, (Some(7), None, Some(9)));
     Ok(())
 }
 
@@ -64,7 +102,7 @@ fn loops_have_no_steps(rt: HostRuntime) -> Result<(), NoMemory> {
 
 /// Which faces a set took last, before and after it left one, and what holds them.
 fn last_faces(alloc: Global) -> Result<(Option<u32>, Option<u32>, Option<u32>), NoMemory> {
-    let mut held = Held::new(alloc, 4, 2)?;
+    let mut held = Held::new(alloc, Stamped::new(alloc, 4)?, 4, 2)?;
     held.push(1, 2, 7)?;
     held.push(1, 3, 8)?;
     let left = held.pop(1);
@@ -166,23 +204,25 @@ fn row_of_faces(alloc: Global) -> Result<Dual, NoMemory>
     })
 }
 
-/// The first key of a row of four faces at the beginning, and how many keys there are.
+/// The first key of a row of four faces at the beginning, and its place.
 fn key_at_first(alloc: Global) -> Result<(u64, usize), NoMemory> {
     let dual = row_of_faces(alloc)?;
     let steps = steps_at(alloc, dual.crosses.as_slice(), dual.faces)?;
-    let state = State::start(alloc, &dual, dual.odd.as_slice())?;
-    let queue = first_keys(alloc, &state, &dual, &steps)?;
-    let count = queue.len();
-    if count == 0 {
-        return Ok((0, 0));
-    }
-    Ok((queue.first(), count))
+    let state = State::start(
+        alloc,
+        &dual,
+        dual.odd.as_slice(),
+        Arena::new(alloc, dual.faces)?,
+        Stamped::new(alloc, 0)?,
+    )?;
+    let queue = first_keys(alloc, &state, &dual, &steps, Keys::new(alloc, 0)?)?;
+    Ok((queue.first(), queue.place()))
 }
 
 #[test]
 fn seats_tell_the_first_keys(rt: HostRuntime) -> Result<(), NoMemory> {
     let keys = key_at_first(rt.alloc())?;
-    assert_eq!(rt; keys, (2, 7));
+    assert_eq!(rt; keys, (2, 2));
     Ok(())
 }
 
@@ -231,9 +271,14 @@ fn mates_at_end<L: Ledger>(
     let mut steps = Steps::new(book, share);
     let dual = row_of_faces(alloc)?;
     let ways = steps_at(alloc, dual.crosses.as_slice(), dual.faces)?;
-    let mut state = State::start(alloc, &dual, dual.odd.as_slice())?;
-    let mut queue = first_keys(alloc, &state, &dual, &ways)?;
-    match sweep(&mut state, &dual, &ways, &mut queue, &mut steps)? {
+    let Lent {
+        nodes,
+        places,
+        keys,
+    } = Lent::new(alloc, &dual)?;
+    let mut state = State::start(alloc, &dual, dual.odd.as_slice(), nodes, places)?;
+    let mut queue = first_keys(alloc, &state, &dual, &ways, keys)?;
+    match sweep(alloc, &mut state, &dual, &ways, &mut queue, &mut steps)? {
         Event::Meet(ahead) => {
             meet(
                 alloc, &mut state, &dual, &ways, &mut queue, ahead, &mut steps,
@@ -255,8 +300,13 @@ fn two_trees_that_meet_end(rt: HostRuntime) -> Result<(), NoMemory> {
 fn keys_of_tops(alloc: Global) -> Result<(u64, u64), NoMemory> {
     let dual = row_of_faces(alloc)?;
     let steps = steps_at(alloc, dual.crosses.as_slice(), dual.faces)?;
-    let state = State::start(alloc, &dual, dual.odd.as_slice())?;
-    let mut queue = Queue::new(alloc, 7)?;
+    let Lent {
+        nodes,
+        places,
+        keys,
+    } = Lent::new(alloc, &dual)?;
+    let state = State::start(alloc, &dual, dual.odd.as_slice(), nodes, places)?;
+    let mut queue = Queue::new(alloc, keys, 3, 4)?;
     let never = queue.first();
     look_tops(&state, &dual, &steps, &mut queue, &[0, 1]);
     Ok((never, queue.first()))

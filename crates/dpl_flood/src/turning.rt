@@ -1,4 +1,4 @@
-//! Tops begin to move, or rest no more, and the keys that this bears on are set anew.
+//! Tops begin to move, and the keys that this bears on are set anew.
 
 ghost use Rattle.std.specs.Prelude.{◌≡◌, ◌≢◌, ℕ, ◌*◌, ◌<◌, ◌^◌, false, List, Option, slice_index, slice_index_or};
 ghost use Rattle.dpl_laminar.specs.Storing.{sets_of};
@@ -14,7 +14,7 @@ ghost use Rattle.dpl_flood.specs.Steps.{step_rows};
 
 use crate::looks::{look_set, look_top};
 use crate::queue::Queue;
-use crate::relabelling::{grow, rouse};
+use crate::relabelling::grow;
 use crate::state::State;
 use crate::ways::Step;
 use dpl_dual::Dual;
@@ -55,45 +55,4 @@ pub(crate) fn turn(
     grow(state, from, to, mate);
     look_set(state, dual, queue, inner);
     look_top(state, dual, steps, queue, outer);
-}
-
-/// A set rests no more, and the keys of the ways at its faces are set anew.
-fn wake(state: &mut State, dual: &Dual, steps: &Grouped<Step>, queue: &mut Queue, set: u32)
-    requires state { IsState dual.now state.old }
-    requires keys { AreKeys dual.now state.old queue.old }
-    requires steps { steps.now ≡ step_rows dual.now.crosses dual.now.faces }
-    requires set { set < 2 * (sets_of state.old.family).size }
-    ensures tree { state.new.tree ≡ state.old.tree }
-    ensures same { IsSameForest state.old state.new }
-    ensures awake { slice_index_or state.new.rests.items set false ≡ false }
-    ensures others { (k : ℕ) → k ≢ set →
-        slice_index_or state.new.rests.items k false ≡ slice_index_or state.old.rests.items k false }
-    ensures rest { IsRelabelled state.old state.new }
-    ensures state { IsState dual.now state.new }
-    ensures keys { AreKeys dual.now state.new queue.new }
-{
-    if !state.is_resting(set) {
-        return;
-    }
-    rouse(state, set);
-    look_top(state, dual, steps, queue, set);
-}
-
-/// What rests may be entered again, and the keys of the ways at its faces are set anew.
-pub fn thaw(state: &mut State, dual: &Dual, steps: &Grouped<Step>, queue: &mut Queue)
-    requires state { IsState dual.now state.old }
-    requires keys { AreKeys dual.now state.old queue.old }
-    requires steps { steps.now ≡ step_rows dual.now.crosses dual.now.faces }
-    ensures tree { state.new.tree ≡ state.old.tree }
-    ensures same { IsSameForest state.old state.new }
-    ensures awake { (k : ℕ) → slice_index_or state.new.rests.items k false ≡ false }
-    ensures rest { IsRelabelled state.old state.new }
-    ensures state { IsState dual.now state.new }
-    ensures forest { IsForested dual.now state.old → IsForested dual.now state.new }
-    ensures keys { AreKeys dual.now state.new queue.new }
-{
-    let sets = state.rests.len();
-    for i in 0..sets {
-        wake(state, dual, steps, queue, i as u32);
-    }
 }

@@ -10,12 +10,4 @@ mod dual_grids;
 #[cfg(test)]
 mod laminar;
 #[cfg(test)]
-mod lists;
-#[cfg(test)]
-mod matching;
-#[cfg(test)]
-mod metric;
-#[cfg(test)]
 mod solve;
-#[cfg(test)]
-mod tables;

@@ -53,7 +53,7 @@ fn compare_aside<R: Abort>(
     Ok(())
 }
 
-/// One odd cycle around the triangle, with twice the weight of a clash.
+/// An odd cycle around each face of the triangle, with the weight of a clash.
 #[test]
 fn odd_triangle(rt: HostRuntime) -> Result<(), Fail> {
     let links = [
@@ -63,7 +63,7 @@ fn odd_triangle(rt: HostRuntime) -> Result<(), Fail> {
     ];
     let found = measured(rt.alloc(), 3, &links)?;
     assert_eq!(rt; (found.cost, found.bound), (10, 20));
-    assert_eq!(rt; found.cycles, 1);
+    assert_eq!(rt; found.cycles, 2);
     assert_eq!(rt; (found.excess, found.aside), (0, 0));
     Ok(())
 }
@@ -115,6 +115,6 @@ fn two_parts(rt: HostRuntime) -> Result<(), Fail> {
     ];
     let found = measured(rt.alloc(), 6, &links)?;
     assert_eq!(rt; (found.cost, found.bound), (17, 34));
-    assert_eq!(rt; found.cycles, 2);
+    assert_eq!(rt; found.cycles, 4);
     Ok(())
 }

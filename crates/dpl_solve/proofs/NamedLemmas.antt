@@ -29,7 +29,7 @@ use Rattle.dpl_dual.proofs.NameLemmas.{odd_by_name, parts_by_name}
 use Rattle.dpl_solve.specs.Parts.{odd_of}
 use Rattle.dpl_solve.specs.Named.{keeps, odd_faces, AreOddTogether, IsMostOddFaces}
 use Rattle.dpl_solve.specs.Optimum.{IsMostOdd}
-use Rattle.dpl_solve.proofs.PlaceLemmas.{odd_apart, part_apart}
+use Rattle.dpl_solve.proofs.TerminalLemmas.{odd_apart, part_apart}
 
 -- ---- lists
 

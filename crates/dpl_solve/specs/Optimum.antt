@@ -12,7 +12,7 @@ use Rattle.dpl_colour.specs.Meets.{MeetsFaces}
 use Rattle.dpl_dual.specs.declared.crosses.Dual.{Dual}
 use Rattle.dpl_solve.specs.declared.drawn.Drawn.{Drawn}
 use Rattle.dpl_solve.specs.declared.work.Work.{Work}
-use Rattle.dpl_solve.specs.Joins.{all_ways, times}
+use Rattle.dpl_flood.specs.Flips.{all_ways, times}
 use Rattle.dpl_solve.specs.Parts.{Part, IsPart, IsPaired, all_cycles, all_chains, odd_of}
 use Rattle.dpl_solve.specs.Groups.{numbers_of}
 use Rattle.dpl_solve.specs.Tight.{PassKept, joined_weight}
@@ -26,8 +26,8 @@ pub record AreSolved (w : Drawn) (groups : List (List ℕ)) (n : ℕ) (work : Wo
   pub are : All (IsPart w.graph.now (view_of w.map.now) w.dual.now) parts
   pub paired : All (IsPaired w.dual.now) parts
   pub cycles_are : work.cycles.items ≡ all_cycles parts
-  pub places : length work.joined.edges.items ≡ length w.graph.now.edges
-  pub joins : (e : ℕ) → e < length w.graph.now.edges → joined_bit work.joined.edges.items e % 2
+  pub places : length work.joined.items ≡ length w.graph.now.edges
+  pub joins : (e : ℕ) → e < length w.graph.now.edges → joined_bit work.joined.items e % 2
       ≡ times (all_ways (all_chains parts)) e % 2
 
 -- joined edges that meet the faces, and a packing of no smaller weight

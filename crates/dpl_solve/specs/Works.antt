@@ -24,5 +24,5 @@ pub record AreFree (w : Drawn) (marks : Marks) : Type 0 where
 
 -- there is a place for each edge, and no mark is set
 pub record IsReady (w : Drawn) (work : Work) : Type 0 where
-  pub places : length work.joined.edges.items ≡ length w.graph.now.edges
+  pub places : length work.joined.items ≡ length w.graph.now.edges
   pub marks : AreFree w work.marks

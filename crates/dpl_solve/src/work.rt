@@ -5,7 +5,6 @@ ghost use Rattle.dpl_map.specs.Planes.{joined_bit};
 ghost use Rattle.dpl_solve.specs.Works.{IsDrawn, IsReady};
 
 use crate::drawn::Drawn;
-use dpl_dual::types::Distances;
 use dpl_sign::Cycle;
 use std::alloc::{AllocError, Global};
 
@@ -16,19 +15,10 @@ pub struct Marks {
     pub seen: Vec<bool>,
 }
 
-/// The edges that are joined so far, the distances that were sought last, in whose memory the next ones are
-/// sought, and a place for each face, by which it is found in the list of its part.
-#[derive(Drop)]
-pub struct Joined {
-    pub edges: Vec<bool>,
-    pub reach: Distances,
-    pub places: Vec<usize>,
-}
-
 /// The edges that are joined so far, the walks so far, and the marks for the next ones.
 #[derive(Drop)]
 pub struct Work {
-    pub joined: Joined,
+    pub joined: Vec<bool>,
     pub cycles: Vec<Cycle>,
     pub marks: Marks,
 }
@@ -38,20 +28,16 @@ impl Work {
     pub fn new(alloc: Global, drawn: &Drawn<'_>) -> Result<Work, AllocError>
         requires { IsDrawn drawn.now }
         ensures ready { IfOk result (λ w. IsReady drawn.now w) }
-        ensures none { IfOk result (λ w. (e : ℕ) → joined_bit w.joined.edges.items e ≡ 0) }
+        ensures none { IfOk result (λ w. (e : ℕ) → joined_bit w.joined.items e ≡ 0) }
         ensures fresh { IfOk result (λ w. w.cycles.items ≡ []) }
     {
         let count = drawn.graph.edges.as_slice().len();
-        let edges = vec![in alloc; false; count]?;
+        let joined = vec![in alloc; false; count]?;
         let faces = drawn.map.faces() as usize;
         let inside = vec![in alloc; false; faces]?;
         let seen = vec![in alloc; false; 2 * count]?;
         Ok(Work {
-            joined: Joined {
-                edges,
-                reach: Distances::new(alloc),
-                places: Vec::new(alloc),
-            },
+            joined,
             cycles: Vec::new(alloc),
             marks: Marks { inside, seen },
         })

@@ -4,7 +4,7 @@ use Rattle.std.proofs.lemmas.Option.{same_Some}
 use Rattle.dpl_laminar.proofs.Numbers.{some_none}
 use Rattle.dpl_laminar.specs.Families.{Sets}
 use Rattle.dpl_tree.specs.steps.Climbs.{IsClimbing, IsClimbed}
-use Rattle.dpl_tree.specs.steps.Forests.{free, outer, Forest, IsForest, IsExposed, IsClimb, IsBeside}
+use Rattle.dpl_tree.specs.steps.Forests.{free, Forest, IsForest, IsExposed, IsClimb, IsBeside}
 use Rattle.dpl_tree.specs.Mates.{IsExit, ArePairs, Joins, loads}
 use Rattle.dpl_tree.proofs.Growing.{outer_in, inner_in, outer_inner_no}
 
@@ -261,22 +261,4 @@ climbing_begun n f dist x mate join c = record {
   second = λ ne. absurd (ne refl);
   others = λ m hm out ne. refl;
   far = λ out. refl;
-}
-
--- at a tight pair from an outer set to one with no pair outside of all trees
-pub climb_begun : (n : ℕ) (f : Sets) (dist : ℕ → ℕ → ℕ) (x : Forest) (s t : ℕ)
-    → ArePairs n f (loads n f) dist x.mate → s < n → t < n → x.place (f.top s) ≡ outer
-    → x.place (f.top t) ≡ free → (loads n f) s t ≡ dist s t → (loads n f) t s ≡ dist t s
-    → IsExposed n f x.mate (f.top t) → IsClimb n f dist x x.mate (s, t)
-climb_begun n f dist x s t p hs ht ps pt tight tight' none = record {
-  s_range = hs;
-  t_range = ht;
-  s_outer = ps;
-  apart = λ e. outer_in (sym (ap x.place e) ∙ ps) pt;
-  tight = tight;
-  tight_back = tight';
-  pairs = p;
-  t_free = none;
-  t_rank = λ z e. absurd (z pt);
-  kept = λ m hm z e le. refl;
 }

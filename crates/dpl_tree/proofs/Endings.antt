@@ -11,7 +11,6 @@ use Rattle.dpl_tree.specs.Metrics.{AreSymmetric}
 use Rattle.dpl_tree.specs.Stages.{IsStage, IsReady, Ends}
 use Rattle.dpl_tree.specs.Views.{forest_of, place_in, mate_in, IsSized}
 use Rattle.dpl_tree.proofs.Growing.{outer_in, inner_in, exit_cases}
-use Rattle.dpl_tree.proofs.Climbing.{climb_begun}
 use Rattle.dpl_tree.proofs.Unfolding.{augmented_rest}
 use Rattle.dpl_tree.proofs.Ways.{load_turned}
 
@@ -133,16 +132,6 @@ ended n f dist one two x y st p g stood = record {
   stood = stood;
 }
 
--- the pair of an outer member and one with no pair outside of all trees ends a tree
-pub end_paired : (n : ℕ) (f : Sets) (dist : ℕ → ℕ → ℕ) (x : Forest) (new : ℕ → Option ℕ) (s t : ℕ) → x.place (f.top t) ≡ free
-    → IsClimbed n f dist x x.mate (s, t) new → ArePaired n f dist (x.tree (f.top s)) (x.tree (f.top s)) x new
-end_paired n f dist x new s t pt c = record {
-  pairs = c.pairs;
-  kept = c.kept;
-  roots = λ i pi e bare. c.root i pi (elim e [ inl z ↦ z | inr z ↦ z ]) bare;
-  others = λ m hm k a b. c.others m hm (inr (inl a)) (λ e. k (ap x.place e ∙ pt));
-}
-
 -- the climb in the first of two trees, where the top of t in the second one has been freed
 pub join_begun : (n : ℕ) (f : Sets) (dist : ℕ → ℕ → ℕ) (x : Forest) (mid : ℕ → Option ℕ) (s t : ℕ) → AreSymmetric n dist
     → IsStage n f dist x → IsPair n f x.place outer s t → loads n f s t ≡ dist s t → x.tree (f.top s) ≢ x.tree (f.top t)
@@ -209,38 +198,6 @@ number_read {n} {f} {tree} {number} {set} {s} lam size hs e es =
     e ∙ get_or_default_zero tree.trees.items set number low ∙ ap (λ z. get_or tree.trees.items z 0) es
 
 -- ---- the calls, by the lists as each step of the code left them
-
--- a member with no pair outside of all trees: the climb begins
-pub end_way : {n : ℕ} {f : Sets} {dist : ℕ → ℕ → ℕ} {read : List (Option ℕ)} {s t : ℕ} (tree : Tree) (mates : List (Option ℕ)) → AreSymmetric n dist
-    → IsStage n f dist (forest_of tree mates) → IsPair n f (place_in tree.labels.items) free s t → loads n f s t ≡ dist s t
-    → IsExposed n f (mate_in mates) (f.top t) → read ≡ mates → IsWay n f dist (forest_of tree mates) (mate_in read) (s, t)
-end_way {n} {f} {dist} {read} {s} {t} tree mates me st p tight bare e =
-    subst (λ (z : List (Option ℕ)). IsWay n f dist (forest_of tree mates) (mate_in z) (s, t)) (sym e) (record {
-      stage = st;
-      climb = climb_begun n f dist (forest_of tree mates) s t st.rest.pairs p.from p.to p.from_outer p.to_place tight
-          (load_turned n f t s ∙ tight ∙ me s t p.from p.to) bare;
-    })
-
--- and what it leaves
-pub end_done : {n : ℕ} {f : Sets} {dist : ℕ → ℕ → ℕ} {read made back : List (Option ℕ)} {s t number : ℕ} (old new : Tree) (mates : List (Option ℕ))
-    → IsStage n f dist (forest_of old mates) → IsPair n f (place_in old.labels.items) free s t
-    → number ≡ get_or old.trees.items (f.top s) 0
-    → ((i : ℕ) → (get_or old.trees.items i 0 ≡ number) ⊎ (get_or old.trees.items i 0 ≡ number) → place_in new.labels.items i ≡ free)
-    → ((i : ℕ) → get_or old.trees.items i 0 ≢ number → get_or old.trees.items i 0 ≢ number → place_in new.labels.items i ≡ place_in old.labels.items i)
-    → new ≡ record old { labels = new.labels } → read ≡ mates
-    → IsClimbed n f dist (forest_of old mates) (mate_in read) (s, t) (mate_in made) → back ≡ made
-    → (one : ℕ) → one ≡ get_or old.trees.items (f.top s) 0 → Ends n dist f one one (forest_of old mates) (forest_of new back)
-end_done {n} {f} {dist} {read} {made} {back} {s} {t} {number} old new mates st p en gone others rest er c eb one eo =
-    let x : Forest = forest_of old mates in
-    let c1 : IsClimbed n f dist x (mate_in mates) (s, t) (mate_in made) =
-    subst (λ (z : List (Option ℕ)). IsClimbed n f dist x (mate_in z) (s, t) (mate_in made)) er c in
-    let c2 : IsClimbed n f dist x (mate_in mates) (s, t) (mate_in back) =
-    subst (λ (z : List (Option ℕ)). IsClimbed n f dist x (mate_in mates) (s, t) (mate_in z)) (sym eb) c1 in
-    let pd = end_paired n f dist x (mate_in back) s t p.to_place c2 in
-    let g = gone_of number number old new mates back gone others rest in
-    let g1 : AreGone (x.tree (f.top s)) (x.tree (f.top s)) x (forest_of new back) =
-    subst (λ (z : ℕ). AreGone z z x (forest_of new back)) en g in
-    subst (λ (z : ℕ). Ends n dist f z z x (forest_of new back)) (sym eo) (ended n f dist (x.tree (f.top s)) (x.tree (f.top s)) x (forest_of new back) st pd g1 (f.top s, outer_in p.from_outer, refl))
 
 -- the same of outer members of two trees
 pub join_way : {n : ℕ} {f : Sets} {dist : ℕ → ℕ → ℕ} {read mid : List (Option ℕ)} {s t : ℕ} (tree : Tree) (mates : List (Option ℕ)) → AreSymmetric n dist

@@ -6,14 +6,13 @@ use Rattle.dpl_laminar.specs.Families.{Sets, IsFamily, has}
 use Rattle.dpl_laminar.specs.Changes.{Gathers, AreTops, IsShrunk}
 use Rattle.dpl_laminar.proofs.Sums.{sum_same}
 use Rattle.dpl_laminar.proofs.Numbers.{true_false, place_in}
-use Rattle.dpl_tree.specs.steps.Forests.{free, outer, inner, Forest, IsForest, IsExposed, Grows, IsCycle, Folds}
+use Rattle.dpl_tree.specs.steps.Forests.{free, outer, inner, Forest, IsForest, IsExposed, IsCycle, Folds}
 use Rattle.dpl_tree.specs.Mates.{IsExit, DropsInside, total_in, loads, totals}
-use Rattle.dpl_tree.specs.Metrics.{IsMetric}
-use Rattle.dpl_tree.specs.Stages.{IsRest, IsStage, IsReady, potential, Advances, AreRanked, KeepsTrees, Widens}
-use Rattle.dpl_tree.proofs.Growing.{place_cases, outer_in, exit_cases, grown}
-use Rattle.dpl_tree.proofs.Parity.{grown_parity, folded_parity}
+use Rattle.dpl_tree.specs.Stages.{IsStage, IsReady, potential, Advances, AreRanked, KeepsTrees, Widens}
+use Rattle.dpl_tree.proofs.Growing.{place_cases, outer_in, exit_cases}
+use Rattle.dpl_tree.proofs.Parity.{folded_parity}
 use Rattle.dpl_tree.proofs.Folding.{folded, folded_pairs}
-use Rattle.dpl_tree.proofs.Turning.{grown_falls, folded_falls}
+use Rattle.dpl_tree.proofs.Turning.{folded_falls}
 use Rattle.dpl_tree.proofs.Stages.{stage_parity, laminar_sized}
 use Rattle.dpl_tree.proofs.Alike.{loads_alike, totals_alike, shrunk_alike, pairs_alike, tree_alike}
 
@@ -75,27 +74,6 @@ tree_ready n f load dist x tree k ne = elim (place_cases (x.place (f.top k))) [
 ]
 
 -- ---- growth
-
--- over a tight pair of even distance to a top whose own pair has even distance
-pub grown_even : (n : ℕ) (f : Sets) (dist : ℕ → ℕ → ℕ) (x y : Forest) (s t m o : ℕ) → dist s t % 2 ≡ 0 → dist m o % 2 ≡ 0
-    → IsStage n f dist x → IsRest n f dist y.mate → s < n → t < n → x.place (f.top s) ≡ outer
-    → x.place (f.top t) ≡ free → loads n f s t ≡ dist s t → IsExit n f x.mate (f.top t) m o
-    → Grows f x s t o y → IsStage n f dist y × (potential n f y.place < potential n f x.place)
-grown_even n f dist x y s t m o even even_pair st rest hs ht ps pt tight ex g =
-    let r = st.rest in
-    let tree = grown n f (loads n f) dist x y s t m o r.laminar r.pairs st.tree hs ht ps pt tight ex g in
-    let par = grown_parity n f f.value dist x y s t m o r.laminar even even_pair r.pairs st.tree (stage_parity n f dist x st) hs ht ps pt tight ex g in
-    (record { rest = rest; tree = tree; even = par.in_tree }, grown_falls n f (loads n f) dist x y s t m o r.laminar r.pairs st.tree pt ex g)
-
-pub grown_stage : (n : ℕ) (f : Sets) (dist : ℕ → ℕ → ℕ) (x y : Forest) (s t m o : ℕ) → IsMetric n dist
-    → IsStage n f dist x → IsRest n f dist y.mate → s < n → t < n → x.place (f.top s) ≡ outer
-    → x.place (f.top t) ≡ free → loads n f s t ≡ dist s t → IsExit n f x.mate (f.top t) m o
-    → Grows f x s t o y → IsStage n f dist y × (potential n f y.place < potential n f x.place)
-grown_stage n f dist x y s t m o me st rest hs ht ps pt tight ex g =
-    grown_even n f dist x y s t m o (me.even s t hs ht) (me.even m o ex.below (st.rest.pairs.range m o ex.below ex.paired))
-    st rest hs ht ps pt tight ex g
-
--- ---- a new set
 
 -- totals by the same values
 moved : (n : ℕ) (f g : Sets) → ((i : ℕ) → g.value i ≡ f.value i) → (s : ℕ) → total_in (2 * n) f.value g.holds s ≡ totals n g s

@@ -1,6 +1,5 @@
 pub mod Alike
 pub mod Alone
-pub mod AroundLemmas
 pub mod Climbing
 pub mod Counting
 pub mod Endings
@@ -10,7 +9,6 @@ pub mod Folding
 pub mod Growing
 pub mod Loads
 pub mod Meetings
-pub mod MetricLemmas
 pub mod Nexts
 pub mod Numbering
 pub mod Opening
@@ -23,7 +21,6 @@ pub mod RingPairs
 pub mod RingWalks
 pub mod Rooting
 pub mod RoundLemmas
-pub mod Scanning
 pub mod Stages
 pub mod Turning
 pub mod Unfolding

@@ -1,11 +1,10 @@
-use Rattle.std.proofs.Common.{arith, ◌≡◌, ◌≢◌, ℕ, ◌+◌, ◌-◌, ◌*◌, ◌%◌, ◌<◌, ◌≤◌, ◌⊎◌, refl, sym, ap, ◌∙◌, Bool, true, false, cond, inl, inr, eqb, eq-eqb, None}
+use Rattle.std.proofs.Common.{arith, ◌≡◌, ◌≢◌, ℕ, ◌+◌, ◌*◌, ◌%◌, ◌<◌, ◌≤◌, ◌⊎◌, refl, sym, ap, ◌∙◌, Bool, true, false, cond, inl, inr, eqb, eq-eqb, None}
 use Rattle.std.proofs.lemmas.Bool.{cases_eq, cases_Bool, cond-true, cond-false, ne_eqb}
 use Rattle.dpl_laminar.proofs.Sums.{sum_same, sum_added, sum_at}
 use Rattle.dpl_laminar.specs.Families.{Sets, IsLaminar}
 use Rattle.dpl_laminar.specs.Loads.{sum_below, load_in, differ}
 use Rattle.dpl_tree.specs.steps.Forests.{Place, free, outer, inner, Shifts, gain, drop_of}
 use Rattle.dpl_tree.specs.Mates.{total_in}
-use Rattle.dpl_tree.specs.Metrics.{IsMetric}
 use Rattle.dpl_tree.specs.Stages.{HasParity}
 
 -- ---- loads by totals
@@ -156,37 +155,6 @@ pub record HasRoom (n : ℕ) (f : Sets) (place : ℕ → Place) (by : ℕ) (v : 
   pub outer_free : (s t : ℕ) → s < n → t < n → place (f.top s) ≡ outer → place (f.top t) ≡ free → load_in (2 * n) v f.holds s t + by ≤ dist s t
   pub free_outer : (s t : ℕ) → s < n → t < n → place (f.top s) ≡ free → place (f.top t) ≡ outer → load_in (2 * n) v f.holds s t + by ≤ dist s t
 
--- the loads stay within the distances
-pub shift_within : (n : ℕ) (f : Sets) → IsLaminar n f
-    → (place : ℕ → Place) (by : ℕ) (v v' : ℕ → ℕ) (dist : ℕ → ℕ → ℕ) → Shifts (2 * n) f place by v v'
-    → HasRoom n f place by v dist → (s t : ℕ) → s < n → t < n → s ≢ t
-    → load_in (2 * n) v' f.holds s t ≤ dist s t
-shift_within n f p place by v v' dist sh r s t hs ht ne = elim (cases_eq (f.top s) (f.top t)) [
-  | inl same ↦ omega (arith, shift_inside n f p place by v v' sh s t hs ht same, r.within s t hs ht ne)
-  | inr apart ↦ from (place (f.top s)) (place (f.top t)) refl refl (shift_load n f p place by v v' sh s t hs ht apart) apart
-] where
-  from : (a b : Place) → place (f.top s) ≡ a → place (f.top t) ≡ b →
-      load_in (2 * n) v' f.holds s t + (drop_of (place (f.top s)) * by + drop_of (place (f.top t)) * by) ≡ load_in
-      (2 * n) v f.holds s t + (gain (place (f.top s)) * by + gain (place (f.top t)) * by) →
-      f.top s ≢ f.top t → load_in (2 * n) v' f.holds s t ≤ dist s t
-  from free free ea eb e ap' = omega (arith, e, times gain by ea, times gain by eb, times drop_of by ea, times drop_of by eb, r.within s t hs ht ne)
-  from free outer ea eb e ap' = omega (arith, e, times gain by ea, times gain by eb, times drop_of by ea, times drop_of by eb, r.free_outer s t hs ht ea eb)
-  from free inner ea eb e ap' = omega (arith, e, times gain by ea, times gain by eb, times drop_of by ea, times drop_of by eb, r.within s t hs ht ne)
-  from outer free ea eb e ap' = omega (arith, e, times gain by ea, times gain by eb, times drop_of by ea, times drop_of by eb, r.outer_free s t hs ht ea eb)
-  from outer outer ea eb e ap' = omega (
-    arith,
-    e,
-    times gain by ea,
-    times gain by eb,
-    times drop_of by ea,
-    times drop_of by eb,
-    r.both_outer s t hs ht ap' ea eb,
-  )
-  from outer inner ea eb e ap' = omega (arith, e, times gain by ea, times gain by eb, times drop_of by ea, times drop_of by eb, r.within s t hs ht ne)
-  from inner free ea eb e ap' = omega (arith, e, times gain by ea, times gain by eb, times drop_of by ea, times drop_of by eb, r.within s t hs ht ne)
-  from inner outer ea eb e ap' = omega (arith, e, times gain by ea, times gain by eb, times drop_of by ea, times drop_of by eb, r.within s t hs ht ne)
-  from inner inner ea eb e ap' = omega (arith, e, times gain by ea, times gain by eb, times drop_of by ea, times drop_of by eb, r.within s t hs ht ne)
-
 -- the pairs of tops between which a tight pair stays tight
 pub data Balanced : Place → Place → Type 0 where
   both_free : Balanced free free
@@ -241,24 +209,3 @@ shift_parity n f p place by v v' sh h = record {
         h.in_tree s t hs ht ps pt,
       );
 }
-
--- the slack of two outer members is even
-pub slack_even : (n : ℕ) (f : Sets) (place : ℕ → Place) (v : ℕ → ℕ) (dist : ℕ → ℕ → ℕ) → IsMetric n dist
-    → HasParity n f place v → (s t : ℕ) → s < n → t < n → place (f.top s) ≢ free → place (f.top t) ≢ free
-    → total_in (2 * n) v f.holds s + total_in (2 * n) v f.holds t ≤ dist s t
-    → (dist s t - (total_in (2 * n) v f.holds s + total_in (2 * n) v f.holds t)) % 2 ≡ 0
-slack_even n f place v dist m h s t hs ht ps pt le = omega (arith, m.even s t hs ht, h.in_tree s t hs ht ps pt)
-
--- an inner single member has as much value as the outer members may gain: by the triangle rule
-pub single_keeps : (n : ℕ) (f : Sets) → IsLaminar n f → (v : ℕ → ℕ) (dist : ℕ → ℕ → ℕ) → IsMetric n dist
-    → (u m w by : ℕ) → u < n → m < n → w < n → f.top u ≢ f.top m → f.top m ≢ f.top w → f.top u ≢ f.top w
-    → total_in (2 * n) v f.holds m ≡ v m → load_in (2 * n) v f.holds u m ≡ dist u m
-    → load_in (2 * n) v f.holds m w ≡ dist m w → load_in (2 * n) v f.holds u w + 2 * by ≤ dist u w → by ≤ v m
-single_keeps n f p v dist m u x w by hu hx hw a b c t e e' room =
-    omega (
-      arith,
-      m.triangle u x w hu hx hw,
-      load_totals n f v p u x hu hx a,
-      load_totals n f v p x w hx hw b,
-      load_totals n f v p u w hu hw c,
-    )

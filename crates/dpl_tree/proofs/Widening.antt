@@ -7,39 +7,16 @@ use Rattle.dpl_laminar.specs.Changes.{Gathers, IsShrunk, IsExpanded}
 use Rattle.dpl_laminar.proofs.Numbers.{true_false, some_none, has_head, has_tail}
 use Rattle.dpl_tree.specs.declared.tree.Tree.{Tree}
 use Rattle.dpl_tree.specs.declared.tree.Label.TheVariants.{Free, Outer, Inner}
-use Rattle.dpl_tree.specs.steps.Forests.{Place, free, outer, Forest, Grows, Folds, Opens}
+use Rattle.dpl_tree.specs.steps.Forests.{outer, Forest, Folds, Opens}
 use Rattle.dpl_tree.specs.Stages.{IsStage}
 use Rattle.dpl_tree.specs.Stages.{Widens, WidensBy}
 use Rattle.dpl_tree.specs.steps.Joins.{tops_from}
 use Rattle.dpl_tree.specs.Views.{place_in, place_of, forest_of}
 use Rattle.dpl_tree.specs.steps.Opened.{IsOpening, around, Lists, lists_of, walked_times}
-use Rattle.dpl_tree.proofs.Growing.{inner_in, outer_in, outer_inner_no}
+use Rattle.dpl_tree.proofs.Growing.{inner_in, outer_inner_no}
 use Rattle.dpl_tree.proofs.Unfolding.{released_of}
 
 -- ---- growth
-
--- growth keeps the outer members
-pub grown_widens : (n : ℕ) (f : Sets) (x y : Forest) (s t o : ℕ) → x.place (f.top t) ≡ free → Grows f x s t o y → Widens n f x.place f y.place
-grown_widens n f x y s t o pt g = record {
-  outer_stays = λ a ha p. elim (cases_eq (f.top a) (f.top o)) [
-    | inl e ↦ ap y.place e ∙ g.place_outer
-    | inr off ↦ g.place_others (f.top a) (λ e. outer_in p (ap x.place e ∙ pt)) off ∙ p
-  ];
-  together = λ a b ha hb p e. e;
-}
-
--- growth makes one top outer
-pub grown_by : (n : ℕ) (f : Sets) (x y : Forest) (s t o : ℕ) → o < n → Grows f x s t o y → WidensBy n f x.place f y.place o
-grown_by n f x y s t o ho g = record {
-  below = ho;
-  tops = λ m hm ne. refl;
-  others = λ m hm ne p. elim (cases_eq (f.top m) (f.top t)) [
-    | inl e ↦ outer_inner_no {P = x.place (f.top m) ≡ outer} p (ap y.place e ∙ g.place_inner)
-    | inr off ↦ sym (g.place_others (f.top m) off ne) ∙ p
-  ];
-}
-
--- ---- a new set
 
 -- a new outer set keeps the outer members
 pub folded_widens : (n : ℕ) (f g : Sets) (dist : ℕ → ℕ → ℕ) (x y : Forest) (joins : List (ℕ × ℕ)) (cs ds : List ℕ) (meet set : ℕ)
@@ -153,15 +130,3 @@ given_widens n f g dist t0 t1 t2 mates new set sets joins p st o ex op el =
           same ∙ op.place_others i (apart a po) first ∙ po;
       together = λ a b ha hb po z. q.top_others a ha (apart a po) ∙ z ∙ sym (q.top_others b hb (λ y. apart a po (z ∙ y)));
     }
-
--- a change of values keeps the tops
-pub widens_back : (n : ℕ) (f g h : Sets) (place place' : ℕ → Place) → g ≡ record f { value = g.value } → Widens n g place h place' → Widens n f place h place'
-widens_back n f g h place place' e w =
-    let b : Widens n (record f { value = g.value }) place h place' = subst (λ (z : Sets). Widens n z place h place') e w in
-    record { outer_stays = b.outer_stays; together = b.together }
-
-pub widened_back : (n : ℕ) (f g h : Sets) (place place' : ℕ → Place) (o : ℕ) → g ≡ record f { value = g.value }
-    → WidensBy n g place h place' o → WidensBy n f place h place' o
-widened_back n f g h place place' o e w =
-    let b : WidensBy n (record f { value = g.value }) place h place' o = subst (λ (z : Sets). WidensBy n z place h place' o) e w in
-    record { below = b.below; tops = b.tops; others = b.others }

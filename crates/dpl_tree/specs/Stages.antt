@@ -96,14 +96,3 @@ pub record WidensBy (n : ℕ) (f : Sets) (place : ℕ → Place) (g : Sets) (pla
   pub tops : (m : ℕ) → m < n → g.top m ≢ g.top o → g.top m ≡ f.top m
   pub others : (m : ℕ) → m < n → g.top m ≢ g.top o → place' (g.top m) ≡ outer →
       place (f.top m) ≡ outer
-
--- An amount that no candidate forbids: what the scan over the pairs and over the inner sets
--- gives.
-pub record IsChange (n : ℕ) (f : Sets) (x : Forest) (v : ℕ → ℕ) (dist : ℕ → ℕ → ℕ)
-    (by : ℕ) : Type 0 where
-  pub both_outer : (s t : ℕ) → s < n → t < n → f.top s ≢ f.top t → x.place (f.top s) ≡ outer →
-      x.place (f.top t) ≡ outer → total_in (2 * n) v f.holds s + total_in (2 * n) v f.holds t + 2
-      * by ≤
-      dist s t
-  pub to_free : (s t : ℕ) → s < n → t < n → x.place (f.top s) ≡ outer → x.place (f.top t) ≡ free →
-      total_in (2 * n) v f.holds s + total_in (2 * n) v f.holds t + by ≤ dist s t

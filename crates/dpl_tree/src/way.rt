@@ -71,29 +71,6 @@ fn release(family: &Family, mates: &mut [Option<u32>], tree: &Tree, t: u32)
     }
 }
 
-/// Pairs s with t, whose top is outside of all trees and has no pair, and along the way from s to the root each inner member
-/// with the next outer one. The tree of s is gone.
-pub fn end_tree(family: &Family, mates: &mut [Option<u32>], tree: &mut Tree, s: u32, t: u32)
-    requires mates { length mates.old ≡ (sets_of family.now).size }
-    requires sized { IsSized (sets_of family.now).size tree.old }
-    requires pair { IsPair (sets_of family.now).size (sets_of family.now)
-        (place_in tree.old.labels.items) free s t }
-    requires exposed { IsExposed (sets_of family.now).size (sets_of family.now) (mate_in mates.old)
-        ((sets_of family.now).top t) }
-    requires tight { (dist : ℕ → ℕ → ℕ) ×
-        AreTightBy (sets_of family.now) (forest_of tree.old mates.old) s t dist }
-    ensures ends { (dist : ℕ → ℕ → ℕ) (one : ℕ) →
-        AreTightBy (sets_of family.now) (forest_of tree.old mates.old) s t dist →
-        one ≡ slice_index tree.old.trees.items ((sets_of family.now).top s) →
-        Ends (sets_of family.now).size dist (sets_of family.now) one one
-        (forest_of tree.old mates.old) (forest_of tree.new mates.new) }
-    ensures sized { IsSized (sets_of family.now).size tree.new }
-{
-    let number = tree.trees[family.tops(s) as usize];
-    augment(family, mates, tree, s, t);
-    tree.dissolve(number, number);
-}
-
 /// Pairs s with t, outer members of different trees, and along the ways from both to the roots each inner member with the next
 /// outer one. Both trees are gone.
 pub fn join_trees(family: &Family, mates: &mut [Option<u32>], tree: &mut Tree, s: u32, t: u32)

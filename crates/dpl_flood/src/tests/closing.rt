@@ -5,7 +5,7 @@ ghost use Rattle.dpl_flood.specs.Flips.{AreOverChains};
 ghost use Rattle.dpl_flood.specs.Starts.{AreSeats};
 ghost use Rattle.dpl_flood.specs.States.{IsGround};
 
-use crate::{NoMemory, pair_faces, steps_at};
+use crate::{Lent, NoMemory, Paired, pair_faces, steps_at};
 use dpl_dual::{Cross, Dual, Rows};
 use dpl_laminar::Steps;
 use dpl_list::{Grouped, Items};
@@ -71,11 +71,13 @@ fn tops_in_row<L: Ledger>(alloc: Global, blank: Blank) -> Result<([u32; 4], [u32
     let dual = faces_in_row(alloc)?;
     let ways = steps_at(alloc, dual.crosses.as_slice(), dual.faces)?;
     let mut joined = [false; 3];
-    let (state, mate) = pair_faces(
+    let lent = Lent::new(alloc, &dual)?;
+    let Paired { state, mate, .. } = pair_faces(
         alloc,
         &dual,
         &ways,
         dual.odd.as_slice(),
+        lent,
         &mut joined,
         &mut steps,
     )?;

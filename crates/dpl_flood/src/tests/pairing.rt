@@ -5,7 +5,7 @@ ghost use Rattle.dpl_flood.specs.Flips.{AreOverChains};
 ghost use Rattle.dpl_flood.specs.Starts.{AreSeats};
 ghost use Rattle.dpl_flood.specs.States.{IsGround};
 
-use crate::{NoMemory, pair_faces, steps_at};
+use crate::{Lent, NoMemory, Paired, pair_faces, steps_at};
 use dpl_dual::{Cross, Dual, Rows};
 use dpl_laminar::Steps;
 use dpl_list::{Grouped, Items};
@@ -80,11 +80,13 @@ fn pairs_with_tail<L: Ledger>(
     let dual = faces_with_tail(alloc)?;
     let ways = steps_at(alloc, dual.crosses.as_slice(), dual.faces)?;
     let mut joined = [false; 4];
-    let (_state, mate) = pair_faces(
+    let lent = Lent::new(alloc, &dual)?;
+    let Paired { mate, .. } = pair_faces(
         alloc,
         &dual,
         &ways,
         dual.odd.as_slice(),
+        lent,
         &mut joined,
         &mut steps,
     )?;

@@ -20,7 +20,7 @@ pub returns-clause-forest : goal.returns-clause-forest
 returns-clause-forest c = forest_begun c.args.dual.now _ c.args.faces.now c.in_ok-held.held c.in_ok-members.members.items (returns-clause-begun c)
     (c.new-seats.ensures ∙ c.in_ok-from_slice.ensures.items) c.in_ok-seat_all.ensures
     (subst (λ z. AreRoots (sets_of c.in_ok-family.family) z c.in_ok-tree.tree) c.as_slice.ensures.value c.in_ok-tree.ensures)
-    c.in_ok-members.ensures.length c.in_ok-members.ensures.each c.in_ok-mates.ensures c.new-4.ensures
+    c.in_ok-members.ensures.length c.in_ok-members.ensures.each c.in_ok-mates.ensures c.new-3.ensures
 
 pub returns-clause-roots : goal.returns-clause-roots
 returns-clause-roots c = begun_roots (length c.args.faces.now) (sets_of c.in_ok-family.family) c.in_ok-tree.tree c.in_ok-members.members.items

@@ -1,7 +1,0 @@
-use Rattle.std.proofs.Common.{arith}
-use Rattle.std.proofs.lemmas.Nat.{le_or_l, le_or_r}
-use Rattle.std.proofs.lemmas.Grind.{common_steps}
-use Rattle.dpl_match.proofs.neighbours.are_no_more_wide.Goals as goal
-
-pub loop-k-preserved : goal.loop-k-preserved
-loop-k-preserved c = λ low j h. grind (arith, common_steps, le_or_l, le_or_r)

@@ -1,6 +1,0 @@
-use Rattle.std.proofs.Common.{ℕ, ◌<◌}
-use Rattle.dpl_matching_tests.specs.Checks.{table_dist, IsFair}
-use Rattle.dpl_matching_tests.proofs.tables.are_rows_fair.Given as goal
-
-abbrev pub invariant-loop-s : goal.invariant-loop-s
-invariant-loop-s l = (i k : ℕ) → i < l.s → k < l.n → IsFair (table_dist l.n l.rows) i k
