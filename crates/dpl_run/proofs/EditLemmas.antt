@@ -17,7 +17,7 @@ use Rattle.dpl_edit.specs.declared.errors.RemoveError.TheVariants as removal
 use Rattle.dpl_edit.specs.Contents.{content, boxes_without, content_reasons, HasBox, Refuses}
 use Rattle.dpl_edit.specs.Sessions.{State, IsBegun, IsEdited, RefusesRemoval}
 use Rattle.dpl_edit.proofs.RefusalLemmas.{content_kind, content_once}
-use Rattle.dpl_words.specs.Commands.{PlainCommand}
+use Rattle.dpl_words.specs.declared.command.Command.{Command}
 use Rattle.dpl_words.specs.declared.edits.Line.{Line}
 use Rattle.dpl_words.specs.declared.edits.Line.TheVariants.{Add, Remove}
 use Rattle.dpl_words.specs.declared.edits.ScriptError.{ScriptError}
@@ -90,30 +90,30 @@ one_edit o text second _ _ _ _ (begun d is w a x due) (begun g also v b y other)
 
 -- ---- the end of the work
 
-over_ends : (c : PlainCommand) → colours c ≡ true → (s : Edits) (e : LayerError) → FirstOf (edits_reasons s) e → Ends c (status_of e) []
+over_ends : (c : Command) → colours c ≡ true → (s : Edits) (e : LayerError) → FirstOf (edits_reasons s) e → Ends c (status_of e) []
 over_ends c colouring s e r = by_kind e (content_kind s.options (content s.begun s.boxes) s.keep e r) where
   by_kind : (e : LayerError) → HasKind ⊥ 8 e → Ends c (status_of e) []
   by_kind (refusal.Limit k n) h = (work_limit c colouring k h, refl)
   by_kind (refusal.Layout command what) h = absurd h
   by_kind refusal.NoMemory h = absurd h
 
-stop_ends : (c : PlainCommand) → colours c ≡ true → follows c ≡ true → (s : Edits) (n : ℕ) (l : Line) (a : Status) (x : List ℕ) → StopsAt s n l a x → Ends c a x
+stop_ends : (c : Command) → colours c ≡ true → follows c ≡ true → (s : Edits) (n : ℕ) (l : Line) (a : Status) (x : List ℕ) → StopsAt s n l a x → Ends c a x
 stop_ends c colouring following s n l _ _ (missing p) = (following, refl)
 stop_ends c colouring following s n l _ _ (over e there p) = over_ends c colouring (edited l s) e p
 
-edits_end : (c : PlainCommand) → colours c ≡ true → follows c ≡ true
+edits_end : (c : Command) → colours c ≡ true → follows c ≡ true
     → (ls : List Line) (s : Edits) (n : ℕ) (a : Status) (x : List ℕ) → AreEditsDue s n ls a x → Ends c a x
 edits_end c colouring following [] s n a x d = subst (λ z. Ends c z x) (sym d.0) tt
 edits_end c colouring following (l ∷ ls) s n a x (inl p) = stop_ends c colouring following s n l a x p
 edits_end c colouring following (l ∷ ls) s n a x (inr q) = edits_end c colouring following ls (edited l s) (n + 1) a x q.1
 
-script_ends : (c : PlainCommand) → colours c ≡ true → follows c ≡ true
+script_ends : (c : Command) → colours c ≡ true → follows c ≡ true
     → (s : Edits) (text : List ℕ) (a : Status) (x : List ℕ) → IsScriptDue s text a x → Ends c a x
 script_ends c colouring following s text _ _ (bad_line n b) = (following, refl)
 script_ends c colouring following s text _ _ (applied ls is a x d) = edits_end c colouring following ls s 1 a x d
 
 -- what is due for edit ends the work of a command that colours and follows a script
-pub edit_ends : (c : PlainCommand) → colours c ≡ true → follows c ≡ true → (o : PlainOptions) (text second : List ℕ) → AllEnd c (IsEditDue o text second)
+pub edit_ends : (c : Command) → colours c ≡ true → follows c ≡ true → (o : PlainOptions) (text second : List ℕ) → AllEnd c (IsEditDue o text second)
 edit_ends c colouring following o text second _ _ (unread e r) =
     let K : (f : LayerError) → FirstOf (drawing_reasons o text) f → HasKind (Unit {0}) 7 f =
     λ f q. first_has (HasKind (Unit {0}) 7) (drawing_reasons o text) f (drawing_kinds 7 (omega arith) o text) q in

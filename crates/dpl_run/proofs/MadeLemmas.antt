@@ -9,7 +9,7 @@ use Rattle.dpl_layer.specs.Reasons.{FirstOf}
 use Rattle.dpl_layer.proofs.ReasonLemmas.{IsOnce}
 use Rattle.dpl_core.specs.Refusals.{split_reasons}
 use Rattle.dpl_core.proofs.RefusalLemmas.{never_memory, split_kind}
-use Rattle.dpl_words.specs.Commands.{PlainCommand}
+use Rattle.dpl_words.specs.declared.command.Command.{Command}
 use Rattle.dpl_run.specs.declared.status.Status.{Status}
 use Rattle.dpl_run.specs.declared.status.Status.TheVariants.{Done}
 use Rattle.dpl_run.specs.Inputs.{colours}
@@ -20,20 +20,20 @@ use Rattle.dpl_run.specs.Telling.{IsWorked}
 use Rattle.dpl_run.proofs.EndLemmas.{AllEnd, IsWorkLimit, error_ends, refused_worked, refused_not_done}
 
 -- a limit up to that on odd faces is one of a command that colours
-pub work_limit : (c : PlainCommand) → colours c ≡ true → (k : ℕ) → (2 ≤ k) × (k ≤ 8) → IsWorkLimit c k
+pub work_limit : (c : Command) → colours c ≡ true → (k : ℕ) → (2 ≤ k) × (k ≤ 8) → IsWorkLimit c k
 work_limit c colouring k h = elim (cases_lt k 8) [
   | inl l ↦ inl (h.0, omega (arith, l))
   | inr l ↦ inr (omega (arith, h.1, l), colouring)
 ]
 
 -- what is due ends the work, where no refusal is want of memory and each limit is one of the work
-pub made_ends : (c : PlainCommand) (R : LayerError → Type 0) (M : List ℕ → Type 0) → (R refusal.NoMemory → ⊥)
+pub made_ends : (c : Command) (R : LayerError → Type 0) (M : List ℕ → Type 0) → (R refusal.NoMemory → ⊥)
     → ((k n : ℕ) → R (refusal.Limit k n) → IsWorkLimit c k) → AllEnd c (IsMade R M)
 made_ends c R M some kinds _ _ (refused e r) = error_ends c R some kinds e r
 made_ends c R M some kinds _ _ (done output p free) = tt
 
 -- the same for a split
-pub split_ends : (c : PlainCommand) → colours c ≡ true
+pub split_ends : (c : Command) → colours c ≡ true
     → (o : PlainOptions) (text : List ℕ) (M : List ℕ → Type 0)
     → AllEnd c (IsMade (FirstOf (split_reasons o text)) M)
 split_ends c colouring o text M = made_ends c (FirstOf (split_reasons o text)) M (never_memory o text)
