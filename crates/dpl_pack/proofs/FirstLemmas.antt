@@ -3,7 +3,7 @@ use Rattle.std.proofs.Common.{arith, ◌≡◌, ◌≢◌, ℕ, ◌+◌, ◌*◌
 use Rattle.std.proofs.Common.{true, cond, inl, inr, List, length, get_or, eq-eqb}
 use Rattle.std.specs.Prelude.{slice_index}
 use Rattle.std.proofs.lemmas.Bool.{cases_eq, cases_Bool, cond-true, cond-false, and_from, true≢false}
-use Rattle.dpl_laminar.specs.Families.{Sets, IsFamily, has}
+use Rattle.dpl_laminar.specs.Families.{Sets, IsFamily, has, total_of}
 use Rattle.dpl_laminar.proofs.Sums.{sum_most, sum_added, sum_at}
 use Rattle.dpl_dual.specs.declared.crosses.Dual.{Dual}
 use Rattle.dpl_dual.specs.Duals.{CameFromDual}
@@ -109,11 +109,10 @@ pub first_flood : (d : Dual) (terminals : List ℕ) (f : Sets) (point : ℕ → 
     → ((g : ℕ) → point g ≢ water → (g < d.faces) × (slice_index d.part g ≡ slice_index d.part (slice_index terminals 0)))
     → IsFlood d terminals f point
 first_flood d terminals f point came terms family size within firsts home =
-    let limit : ℕ = 4611686018427387904 in
     let start = get_or terminals 0 0 in
-    let points = points_of d came terminals 4611686018427387904 in
+    let points = points_of d came terminals (total_of f) in
     let faces = part_faces d (slice_index d.part (slice_index terminals 0)) in
-    let p = part_of d terminals f 4611686018427387904 refl came terms family size within in
+    let p = part_of d terminals f (total_of f) refl came terms family size within in
     flood_at d terminals f points faces point p (λ g. record {
       inside = λ y. first_stands d terminals f points faces p g y (point g) (firsts g (has_linked d terminals f points faces p g y).0
           (same_part d terminals f points faces p g y));

@@ -68,7 +68,7 @@ dual_ground d c =
 pub terminal_seats : (d : Dual) (terminals : List ℕ) → CameFromDual d → AreTerminals d terminals → length terminals ≤ 2048
     → AreSeats d terminals
 terminal_seats d terminals c t few = record {
-  few = few;
+  few = omega (arith, few);
   inside = λ i y l. (terminal_facts d terminals c t i y l).0;
   part = λ i y l. eqb-true (slice_index d.part (get_or terminals i y)) t.part (terminal_facts d terminals c t i y l).1 ∙
       sym (terminal_at d terminals c t 0 t.some).1;

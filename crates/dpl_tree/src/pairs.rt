@@ -1,6 +1,7 @@
 //! Pairs of members.
 
 ghost use Rattle.std.specs.Prelude.{◌≡◌, ℕ, ◌<◌, ◌≤◌, true, slice_index_or, slice_set, length, IfSome, MatchOption};
+ghost use Rattle.dpl_laminar.specs.declared.TheConstants.{MOST_MEMBERS};
 ghost use Rattle.dpl_laminar.specs.Storing.{sets_of};
 ghost use Rattle.dpl_tree.specs.Mates.{kept_outside, DropsInside};
 ghost use Rattle.dpl_tree.specs.steps.Joins.{is_end};
@@ -56,7 +57,7 @@ fn is_single(family: &Family, top: u32, members: usize) -> bool
 /// The member of a top set that has a mate, and its mate. A single member has no others beside it.
 pub fn exit_of(family: &Family, mates: &[Option<u32>], top: u32) -> Option<(u32, u32)>
     requires count { length mates.now ≡ (sets_of family.now).size }
-    requires small { length mates.now ≤ 2048 }
+    requires small { length mates.now ≤ MOST_MEMBERS }
     ensures { MatchOption result
         ((m : ℕ) → m < (sets_of family.now).size → (sets_of family.now).top m ≡ top →
         mate_in mates.now m ≡ None)
