@@ -231,12 +231,13 @@ fn has_cycle(alloc: Global, session: &Session, number: usize, wanted: &[u32]) ->
 fn have_cycles(alloc: Global) -> Option<bool> {
     let session = triangles(alloc)?;
     let first = has_cycle(alloc, &session, 0, &[0, 1, 2])?;
-    let second = has_cycle(alloc, &session, 1, &[3, 4, 5])?;
+    let second = has_cycle(alloc, &session, 2, &[3, 4, 5])?;
     Some(first && second)
 }
 
-/// Each triangle has one odd cycle. Its edges are numbered among those of both triangles, by their fragments: 0, 1 and 4
-/// are those of the first triangle, 2, 3 and 5 those of the second.
+/// Each triangle has two odd cycles, one each way round. Their edges are numbered among those of
+/// both triangles, by their fragments: 0, 1 and 4 are those of the first triangle, 2, 3 and 5
+/// those of the second.
 #[test]
 fn cycles_have_the_numbers_of_the_whole(rt: HostRuntime) {
     assert_eq!(rt; have_cycles(rt.alloc()), Some(true));
