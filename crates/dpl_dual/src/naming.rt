@@ -1,64 +1,31 @@
-//! The parts of a dual, each named by its least face.
+//! The parts of a dual.
 
-ghost use Rattle.std.specs.Prelude.{◌≡◌, ℕ, ◌<◌, length, slice_index, if◌then◌else◌, OnOk, IfOk};
-ghost use Rattle.dpl_dual.specs.Chains.{stands_in};
-ghost use Rattle.dpl_dual.specs.Duals.{AreRows, AreParts};
-ghost use Rattle.dpl_dual.specs.Searches.{AreWays};
-ghost use Rattle.dpl_dual.specs.Parities.{AreNamed};
+ghost use Rattle.std.specs.Prelude.{◌≡◌, length, map, IfOk};
+ghost use Rattle.dpl_dual.specs.Duals.{AreWays, AreParts};
 
-use crate::crosses::{Cross, Rows};
-use crate::measuring::measure;
-use crate::starts::Start;
-use crate::types::Distances;
+use crate::crosses::Cross;
+use dpl_classes::classes;
 use std::alloc::{AllocError, Global};
 
-/// Gives these faces a name.
-fn name(names: &mut [u32], faces: &[u32], name: u32)
-    requires { (i : ℕ) → i < length faces.now → slice_index faces.now i < length names.old }
-    ensures { (f : ℕ) → f < length names.old → slice_index names.new f ≡
-        (if stands_in faces.now f then name else slice_index names.old f) }
+/// The two faces of each way.
+fn sides(alloc: Global, ways: &[Cross]) -> Result<Vec<(u32, u32)>, AllocError>
+    ensures { IfOk result (λ v. v.items ≡ map (λ x. (x.f, x.g)) ways.now) }
 {
-    for face in faces {
-        names[*face as usize] = name;
+    let mut sides = Vec::with_capacity(alloc, ways.len())?;
+    for way in ways {
+        sides.push((way.f, way.g))?;
     }
+    Ok(sides)
 }
 
-/// Names each face by the least face of its part.
-fn name_all(
-    alloc: Global,
-    ways: &[Cross],
-    rows: &Rows,
-    faces: u32,
-    names: &mut [u32],
-) -> Result<(), AllocError>
-    requires ways { AreWays faces ways.now }
-    requires rows { AreRows faces ways.now rows.now }
-    requires size { length names.old ≡ faces }
-    requires blank { (f : ℕ) → f < faces → slice_index names.old f ≡ faces }
-    ensures { OnOk result (AreNamed ways.now faces faces names.new) }
-{
-    let mut reach = Distances::new(alloc);
-    for start in 0..faces {
-        if names[start as usize] == faces {
-            let here = [Start {
-                face: start,
-                far: 0,
-            }];
-            measure(ways, rows, faces, &here, u64::MAX, &mut reach)?;
-            name(names, reach.reached(), start);
-        }
-    }
-    Ok(())
-}
-
-/// For each face the least face of its part.
-pub fn parts(alloc: Global, ways: &[Cross], rows: &Rows, faces: u32) -> Result<Vec<u32>, AllocError>
-    requires ways { AreWays faces ways.now }
-    requires rows { AreRows faces ways.now rows.now }
+/// For each face the number of its part. Parts are numbered from 0 in the order of their least
+/// faces.
+pub fn parts(alloc: Global, ways: &[Cross], faces: u32) -> Result<Vec<u32>, AllocError>
+    requires { AreWays faces ways.now }
     ensures length { IfOk result (λ v. length v.items ≡ faces) }
     ensures each { IfOk result (λ v. AreParts faces ways.now v.items) }
 {
-    let mut part = vec![in alloc; faces; faces as usize]?;
-    name_all(alloc, ways, rows, faces, &mut part)?;
+    let sides = sides(alloc, ways)?;
+    let (part, _) = classes(alloc, faces as usize, &sides)?;
     Ok(part)
 }

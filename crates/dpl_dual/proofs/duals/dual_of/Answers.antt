@@ -6,12 +6,8 @@ use Rattle.dpl_dual.proofs.duals.dual_of.Goals as goal
 pub crosses-requires : goal.crosses-requires
 crosses-requires c = map_of c.args.graph.now c.args.map.now c.requires.map
 
-pub rows_of-requires : goal.rows_of-requires
-rows_of-requires c = rw (c.deref.ensures.value, c.in_ok-ways.ensures, c.faces-faces.ensures)
-    (ways_of _ _ (map_of c.args.graph.now c.args.map.now c.requires.map))
-
-pub parts-requires-clause-ways : goal.parts-requires-clause-ways
-parts-requires-clause-ways c = rw (c.deref-2.ensures.value, c.in_ok-ways.ensures, c.faces-faces.ensures)
+pub parts-requires : goal.parts-requires
+parts-requires c = rw (c.deref.ensures.value, c.in_ok-ways.ensures, c.faces-faces.ensures)
     (ways_of _ _ (map_of c.args.graph.now c.args.map.now c.requires.map))
 
 pub returns : goal.returns
@@ -21,7 +17,6 @@ returns c = record {
   odd = c.new-2.ensures ∙ c.requires.odd;
   parts = ap length c.new-3.ensures ∙ c.in_ok-part.ensures.length ∙ c.faces-faces.ensures;
   part = λ f h hf hh. rw (c.new-3.ensures, c.new.ensures)
-      (rw c.deref-2.ensures.value at (c.in_ok-part.ensures.each f h (omega (arith, hf, c.faces-faces.ensures))
+      (rw c.deref.ensures.value at (c.in_ok-part.ensures.each f h (omega (arith, hf, c.faces-faces.ensures))
       (omega (arith, hh, c.faces-faces.ensures))));
-  rows = rw c.new.ensures (rw (c.deref.ensures.value, c.faces-faces.ensures) at c.in_ok-rows.ensures);
 }
