@@ -2,6 +2,7 @@
 use Rattle.std.proofs.Common.{arith, ◌≡◌, ◌≢◌, ℕ, zero, suc, ◌+◌, ◌*◌, ◌%◌, ◌<◌, ◌≤◌, ◌^◌, ◌⊎◌, refl, sym, ap, ◌∙◌, subst, inl, inr, Bool, ◌&&◌, true, false, cond, eqb, eq-eqb, Option, List, length, get_or}
 use Rattle.std.proofs.Math.Nat.{add-mul, mul_comm, mul-le-mul}
 use Rattle.std.proofs.lemmas.Bool.{cases_eq, cases_Bool, true≢false, and_from, eqb-true, ne_eqb, cond-true, cond-false}
+use Rattle.dpl_laminar.specs.declared.TheConstants.{MOST_MEMBERS}
 use Rattle.dpl_laminar.specs.Changes.{IsSingles}
 use Rattle.dpl_laminar.specs.Families.{Sets}
 use Rattle.dpl_laminar.specs.Loads.{sum_below}
@@ -9,7 +10,7 @@ use Rattle.dpl_laminar.specs.Storing.{sets_of}
 use Rattle.dpl_laminar.proofs.Sums.{sum_same, sum_added, sum_at, sum_most_each}
 use Rattle.dpl_dual.specs.declared.crosses.Dual.{Dual}
 use Rattle.dpl_tree.specs.declared.tree.Tree.{Tree}
-use Rattle.dpl_tree.specs.Stages.{IsCovered, AreRanked, KeepsTrees, Ends, potential}
+use Rattle.dpl_tree.specs.Stages.{most_rank, IsCovered, AreRanked, KeepsTrees, Ends, potential}
 use Rattle.dpl_tree.specs.steps.Forests.{Place, Forest, free, outer, inner, gain}
 use Rattle.dpl_tree.specs.steps.Growth.{AreRoots}
 use Rattle.dpl_tree.specs.Views.{forest_of, place_in}
@@ -287,9 +288,10 @@ few_roots n f x = omega (arith, sum_most_each n (λ a. cond {A = ℕ} (is_root f
     one false = omega arith
 
 -- There is not so much to do that ranks would rise too far.
-pub few_work : (n : ℕ) (f : Sets) (x : Forest) → n ≤ 2048 → work_in n f x ≤ 2 ^ 40
+pub few_work : (n : ℕ) (f : Sets) (x : Forest) → n ≤ MOST_MEMBERS → work_in n f x ≤ 2 ^ 41 + 2 ^ 22
 few_work n f x small =
-    let most : (2 * n + 1) * roots_below n f x ≤ 4097 * 2048 = mul-le-mul {n₁ = 2 * n + 1} {m₁ = roots_below n f x} {n₂ = 4097} {m₂ = 2048} (omega (arith, small)) (omega (arith, small, few_roots n f x)) in
+    let most : (2 * n + 1) * roots_below n f x ≤ (2 * MOST_MEMBERS + 1) * MOST_MEMBERS =
+    mul-le-mul {n₁ = 2 * n + 1} {m₁ = roots_below n f x} {n₂ = 2 * MOST_MEMBERS + 1} {m₂ = MOST_MEMBERS} (omega (arith, small)) (omega (arith, small, few_roots n f x)) in
     omega (arith, most, small, potential_most n f x.place)
 
 -- ---- one event
@@ -393,7 +395,7 @@ running_more d x y z before after r w f k =
     }
 
 -- ranks are low enough
-pub running_low : (d : Dual) (x y : State) (keys : List ℕ) → IsRunning d x y keys → AreRanked (trees_of y) (2 ^ 59)
+pub running_low : (d : Dual) (x y : State) (keys : List ℕ) → IsRunning d x y keys → AreRanked (trees_of y) most_rank
 running_low d x y keys r i = omega (arith, r.low i, r.room)
 
 -- ---- the end

@@ -1,9 +1,9 @@
 -- Keys around all faces of a top while they are set anew.
-use Rattle.std.proofs.Common.{arith, ◌≡◌, ℕ, ◌+◌, ◌*◌, ◌<◌, ◌⊎◌, refl, sym, ap, ◌∙◌, ◌-◌, suc, subst, inl, inr, true, false, Bool, List, [], ◌∷◌, length, get_or}
+use Rattle.std.proofs.Common.{arith, ◌≡◌, ℕ, ◌+◌, ◌*◌, ◌<◌, ◌⊎◌, refl, sym, ap, ◌∙◌, ◌-◌, suc, subst, inl, inr, true, false, Bool, eq-eqb, List, [], ◌∷◌, length, get_or}
 use Rattle.std.specs.Prelude.{reverse, All}
-use Rattle.std.proofs.lemmas.Bool.{cases_eq, cases_lt, true≢false}
+use Rattle.std.proofs.lemmas.Bool.{cases_eq, cases_lt, cases_Bool, true≢false}
 use Rattle.std.proofs.lemmas.List.{get_or-reverse, length-reverse, get_or_default, get_or_past}
-use Rattle.dpl_laminar.proofs.Numbers.{has_tail, has_at}
+use Rattle.dpl_laminar.proofs.Numbers.{has_tail, has_at, place_in}
 use Rattle.dpl_pack.proofs.PointLemmas.{on_water}
 use Rattle.dpl_laminar.specs.Families.{has}
 use Rattle.dpl_laminar.specs.Storing.{sets_of}
@@ -12,7 +12,7 @@ use Rattle.dpl_pack.specs.Tides.{place_of}
 use Rattle.dpl_flood.specs.declared.state.State.{State}
 use Rattle.dpl_flood.specs.Holdings.{stack_of}
 use Rattle.dpl_flood.specs.Seas.{Sea}
-use Rattle.dpl_flood.specs.States.{sea_of, IsState, IsWayFrom, AreKeyedAround, AreKeyedOn, AreKeyedFor, SeatsOn, StacksOn, SeatsAmong, StacksAmong, stands_among}
+use Rattle.dpl_flood.specs.States.{sea_of, IsState, IsWayFrom, AreKeyedAround, AreKeyedOn, AreKeyedFor, IsStackedOn, SeatsOf, StacksOf, SeatsAmong, StacksAmong, stands_among}
 use Rattle.dpl_flood.proofs.LookLemmas.{around_either}
 use Rattle.dpl_flood.proofs.ShoreLemmas.{cases_point}
 
@@ -90,7 +90,8 @@ stack_together d x k g h st hk yg yh =
 -- Each face of a top is the seat of one of its members, or one that a set of it took.
 pub on_top : (d : Dual) (x : State) (top g : ℕ) → IsState d x → top < 2 * (sets_of x.family).size
     → place_of (sets_of x.family) ((sea_of x).point g) ≡ top
-    → SeatsOn (sea_of x) x.seats top (sets_of x.family).size g ⊎ StacksOn (sea_of x) (stack_of x.held) top (2 * (sets_of x.family).size) g
+    → ((t : ℕ) × ((t < (sets_of x.family).size) × (((sets_of x.family).top t ≡ top) × (get_or x.seats t 0 ≡ g))))
+    ⊎ ((k : ℕ) × ((k < 2 * (sets_of x.family).size) × IsStackedOn (sea_of x) (stack_of x.held) top k g))
 on_top d x top g st ht e =
     let s = sea_of x in
     elim (cases_point (s.point g)) [
@@ -103,15 +104,74 @@ on_top d x top g st ht e =
           ]
     ]
 
+-- Where a set took a face that stands on a top, the members of the set are among those of the top.
+name_on_row : (d : Dual) (x : State) (top k g m : ℕ) (members : List ℕ) → IsState d x
+    → ((t : ℕ) → has members t ≡ (sets_of x.family).holds top t) → k < 2 * (sets_of x.family).size
+    → IsStackedOn (sea_of x) (stack_of x.held) top k g → m < (sets_of x.family).size → (sets_of x.family).holds k m ≡ true
+    → has members m ≡ true
+name_on_row d x top k g m members st row hk on hm holds =
+    let f = sets_of x.family in
+    let at = st.held.each k g hk on.0 in
+    let inside = st.sea.flood.members g at.member at.far at.at in
+    let same : f.top m ≡ top = st.sea.family.laminar.tops.top_shared k m at.member hk hm inside holds at.holds
+    ∙ sym (ap (place_of f) at.at) ∙ on.1 in
+    row m ∙ ap (λ z. f.holds z m) (sym same) ∙ st.sea.family.laminar.tops.top_holds m hm
+
+-- The number of a set that took a face of a top is that of a member of the top, or behind those of the singles the same.
+stack_on_row : (d : Dual) (x : State) (top k g : ℕ) (members : List ℕ) → IsState d x
+    → ((t : ℕ) → has members t ≡ (sets_of x.family).holds top t) → k < 2 * (sets_of x.family).size
+    → IsStackedOn (sea_of x) (stack_of x.held) top k g
+    → StacksOf (sea_of x) (stack_of x.held) top members (length members) g
+stack_on_row d x top k g members st row hk on =
+    let s = sea_of x in
+    let f = sets_of x.family in
+    let stack = stack_of x.held in
+    let sets = st.sea.family.laminar.sets in
+    let at = st.held.each k g hk on.0 in
+    let inside = st.sea.flood.members g at.member at.far at.at in
+    elim (cases_lt k f.size) [
+      | inl low ↦
+          let own : f.holds k k ≡ true = sets.single k k low low ∙ eq-eqb k k refl in
+          let found = place_in members k (name_on_row d x top k g k members st row hk on low own) in
+          (found.0, (found.1, inl (subst (λ z. IsStackedOn s stack top z g) (sym found.2) on)))
+      | inr high ↦
+          let name = k - f.size in
+          let below : name < f.size = omega (arith, high, hk) in
+          let sum : k ≡ f.size + name = omega (arith, high) in
+          let live : f.live k ≡ true = elim (cases_Bool (f.live k)) [
+            | inl t ↦ t
+            | inr q ↦ absurd (true≢false (sym at.holds ∙ sets.dead k at.member hk inside q))
+          ] in
+          let own : f.holds k name ≡ true = ap (λ z. f.holds z name) sum
+          ∙ (sets.named name below (ap f.live (sym sum) ∙ live)).0 in
+          let found = place_in members name (name_on_row d x top k g name members st row hk on below own) in (
+            found.0,
+            (
+              found.1,
+              inr (subst (λ z. IsStackedOn s stack top (f.size + z) g) (sym found.2)
+                  (subst (λ z. IsStackedOn s stack top z g) sum on)),
+            ),
+          )
+    ]
+
 -- All faces of a top are looked at.
-pub all_on : (d : Dual) (x : State) (top : ℕ) (old between new : List ℕ) → IsState d x → top < 2 * (sets_of x.family).size
-    → AreKeyedFor d (sea_of x) (SeatsOn (sea_of x) x.seats top (sets_of x.family).size) old between
-    → AreKeyedFor d (sea_of x) (StacksOn (sea_of x) (stack_of x.held) top (2 * (sets_of x.family).size)) between new
+pub all_on : (d : Dual) (x : State) (top : ℕ) (members old between new : List ℕ) → IsState d x → top < 2 * (sets_of x.family).size
+    → ((t : ℕ) → has members t ≡ (sets_of x.family).holds top t)
+    → AreKeyedFor d (sea_of x) (SeatsOf x.seats members (length members)) old between
+    → AreKeyedFor d (sea_of x) (StacksOf (sea_of x) (stack_of x.held) top members (length members)) between new
     → AreKeyedOn d (sea_of x) top d.faces old new
-all_on d x top old between new st ht a b =
-    let k = for_more d (sea_of x) (SeatsOn (sea_of x) x.seats top (sets_of x.family).size)
-    (StacksOn (sea_of x) (stack_of x.held) top (2 * (sets_of x.family).size))
-    (λ g. place_of (sets_of x.family) ((sea_of x).point g) ≡ top) old between new a b (λ g. on_top d x top g st ht) in
+all_on d x top members old between new st ht row a b =
+    let f = sets_of x.family in
+    let k = for_more d (sea_of x) (SeatsOf x.seats members (length members))
+    (StacksOf (sea_of x) (stack_of x.held) top members (length members))
+    (λ g. place_of f ((sea_of x).point g) ≡ top) old between new a b (λ g e. elim (on_top d x top g st ht e) [
+      | inl q ↦
+          let holds : f.holds top q.0 ≡ true = ap (λ z. f.holds z q.0) (sym q.1.1.0)
+          ∙ st.sea.family.laminar.tops.top_holds q.0 q.1.0 in
+          let found = place_in members q.0 (row q.0 ∙ holds) in
+          inl (found.0, (found.1, ap (λ z. get_or x.seats z 0) found.2 ∙ q.1.1.1))
+      | inr q ↦ inr (stack_on_row d x top q.0 g members st row q.1.0 q.1.1)
+    ]) in
     record { sizes = k.sizes; at = λ g w _ is from. k.at g w is from; others = k.others }
 
 -- ---- the faces of a stack, the first one first
@@ -152,24 +212,25 @@ one_face_more xs i g m = elim (cases_lt m.0 i) [
   | inr h ↦ inr (sym m.1.1 ∙ ap (λ z. get_or xs z 0) (let e : m.0 ≡ i = omega (arith, h, m.1.0) in e))
 ]
 
--- one seat more, if its member has the top
-pub one_seat_more : (s : Sea) (seats : List ℕ) (top i g : ℕ) → SeatsOn s seats top (i + 1) g
-    → SeatsOn s seats top i g ⊎ ((s.sets.top i ≡ top) × (g ≡ get_or seats i 0))
-one_seat_more s seats top i g m = elim (cases_lt m.0 i) [
+-- one seat more
+pub one_seat_more : (seats members : List ℕ) (i g : ℕ) → SeatsOf seats members (i + 1) g
+    → SeatsOf seats members i g ⊎ (g ≡ get_or seats (get_or members i 0) 0)
+one_seat_more seats members i g m = elim (cases_lt m.0 i) [
   | inl l ↦ inl (m.0, (l, m.1.1))
   | inr h ↦
       let e : m.0 ≡ i = omega (arith, h, m.1.0) in
-      inr (sym (ap s.sets.top e) ∙ m.1.1.0, sym m.1.1.1 ∙ ap (λ z. get_or seats z 0) e)
+      inr (sym m.1.1 ∙ ap (λ z. get_or seats (get_or members z 0) 0) e)
 ]
 
--- one stack more, if it stands on the top
-pub one_stack_more : (s : Sea) (stack : ℕ → List ℕ) (top i g : ℕ) → StacksOn s stack top (i + 1) g
-    → StacksOn s stack top i g ⊎ ((has (stack i) g ≡ true) × (place_of s.sets (s.point g) ≡ top))
-one_stack_more s stack top i g m = elim (cases_lt m.0 i) [
+-- the stacks of one member more
+pub one_stack_more : (s : Sea) (stack : ℕ → List ℕ) (top : ℕ) (members : List ℕ) (i g : ℕ) → StacksOf s stack top members (i + 1) g
+    → StacksOf s stack top members i g ⊎ (IsStackedOn s stack top (get_or members i 0) g
+    ⊎ IsStackedOn s stack top (s.sets.size + get_or members i 0) g)
+one_stack_more s stack top members i g m = elim (cases_lt m.0 i) [
   | inl l ↦ inl (m.0, (l, m.1.1))
   | inr h ↦
       let e : m.0 ≡ i = omega (arith, h, m.1.0) in
-      inr (sym (ap (λ z. has (stack z) g) e) ∙ m.1.1.0, m.1.1.1)
+      inr (subst (λ z. IsStackedOn s stack top (get_or members z 0) g ⊎ IsStackedOn s stack top (s.sets.size + get_or members z 0) g) e m.1.1)
 ]
 
 -- ---- the faces of some tops

@@ -1,10 +1,11 @@
 -- How trees come to their end: each is named by its root, and what is left to do falls with each event.
-use Rattle.std.specs.Prelude.{◌≡◌, ℕ, ◌+◌, ◌*◌, ◌%◌, ◌^◌, ◌<◌, ◌≤◌, ◌==◌, ◌&&◌, ◌⊎◌, Bool, true, false, if◌then◌else◌, List}
+use Rattle.std.specs.Prelude.{◌≡◌, ℕ, ◌+◌, ◌*◌, ◌%◌, ◌<◌, ◌≤◌, ◌==◌, ◌&&◌, ◌⊎◌, Bool, true, false, if◌then◌else◌, List}
+use Rattle.dpl_laminar.specs.declared.TheConstants.{MOST_MEMBERS}
 use Rattle.dpl_laminar.specs.Families.{Sets}
 use Rattle.dpl_laminar.specs.Loads.{sum_below}
 use Rattle.dpl_laminar.specs.Storing.{sets_of}
 use Rattle.dpl_dual.specs.declared.crosses.Dual.{Dual}
-use Rattle.dpl_tree.specs.Stages.{AreRanked, potential}
+use Rattle.dpl_tree.specs.Stages.{most_rank, AreRanked, potential}
 use Rattle.dpl_tree.specs.steps.Forests.{Place, Forest, free, outer, inner}
 use Rattle.dpl_flood.specs.declared.state.State.{State}
 use Rattle.dpl_flood.specs.Forested.{IsForested, trees_of}
@@ -52,4 +53,4 @@ pub record IsRunning (d : Dual) (x y : State) (queue : List ℕ) : Type 0 where
   pub even : roots_of y % 2 ≡ 0
   pub bound : ℕ
   pub low : AreRanked (trees_of y) bound
-  pub room : bound + 8192 * work_of y ≤ 2 ^ 59
+  pub room : bound + 4 * MOST_MEMBERS * work_of y ≤ most_rank

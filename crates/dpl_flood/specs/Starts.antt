@@ -1,5 +1,6 @@
 -- The beginning: each odd face is the seat of a member, and all else is open water.
 use Rattle.std.specs.Prelude.{◌≡◌, ℕ, ◌<◌, ◌≤◌, Some, List, length, slice_index, All}
+use Rattle.dpl_laminar.specs.declared.TheConstants.{MOST_MEMBERS}
 use Rattle.dpl_laminar.specs.Storing.{sets_of, AreOnce}
 use Rattle.dpl_dual.specs.declared.crosses.Cross.{Cross}
 use Rattle.dpl_dual.specs.declared.crosses.Dual.{Dual}
@@ -13,7 +14,7 @@ use Rattle.dpl_flood.specs.States.{IsState, IsWayFrom, sea_of}
 
 -- different faces of one part, no more than a family has members
 pub record AreSeats (d : Dual) (faces : List ℕ) : Type 0 where
-  pub few : length faces ≤ 2048
+  pub few : length faces ≤ MOST_MEMBERS
   pub inside : All (λ g. g < d.faces) faces
   pub part : All (λ g. slice_index d.part g ≡ slice_index d.part (slice_index faces 0)) faces
   pub once : AreOnce faces

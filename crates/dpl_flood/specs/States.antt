@@ -131,13 +131,19 @@ pub record AreKeyedFor (d : Dual) (s : Sea) (faces : ℕ → Type 0) (old new : 
   pub at : (g w : ℕ) → faces g → IsWayFrom d g w → slice_index new w ≡ due_of d s never w
   pub others : (p : ℕ) → (slice_index new p ≡ slice_index old p) ⊎ ((p < length d.crosses) × (slice_index new p ≡ due_of d s never p))
 
--- the seats of the first members, as far as these have a top
-abbrev pub SeatsOn : Sea → List ℕ → ℕ → ℕ → ℕ → Type 0
-SeatsOn s seats top count g = (t : ℕ) × ((t < count) × ((s.sets.top t ≡ top) × (slice_index seats t ≡ g)))
+-- a face on the stack of a set stands on a top
+abbrev pub IsStackedOn : Sea → (ℕ → List ℕ) → ℕ → ℕ → ℕ → Type 0
+IsStackedOn s stack top k g = (has (stack k) g ≡ true) × (place_of s.sets (s.point g) ≡ top)
 
--- the faces on the stacks of the first sets, as far as these stand on a top
-abbrev pub StacksOn : Sea → (ℕ → List ℕ) → ℕ → ℕ → ℕ → Type 0
-StacksOn s stack top count g = (k : ℕ) × ((k < count) × ((has (stack k) g ≡ true) × (place_of s.sets (s.point g) ≡ top)))
+-- the seats of the first of these members
+abbrev pub SeatsOf : List ℕ → List ℕ → ℕ → ℕ → Type 0
+SeatsOf seats members count g = (i : ℕ) × ((i < count) × (slice_index seats (slice_index members i) ≡ g))
+
+-- the faces on the stacks of the singles of the first of these members, and of the sets that have their numbers from these, as far
+-- as the faces stand on a top
+abbrev pub StacksOf : Sea → (ℕ → List ℕ) → ℕ → List ℕ → ℕ → ℕ → Type 0
+StacksOf s stack top members count g = (i : ℕ) × ((i < count) ×
+    (IsStackedOn s stack top (slice_index members i) g ⊎ IsStackedOn s stack top (s.sets.size + slice_index members i) g))
 
 -- a face stands on one of these tops
 abbrev pub stands_among : Sea → List Bool → ℕ → Bool

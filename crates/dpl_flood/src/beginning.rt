@@ -1,6 +1,7 @@
 //! The beginning: each odd face is the seat of a member, which is a single without a value and the root of a tree.
 
 ghost use Rattle.std.specs.Prelude.{◌≡◌, ℕ, ◌+◌, ◌*◌, ◌<◌, ◌≤◌, ◌^◌, Some, None, [], List, All, IfOk, length, slice_index, replicate};
+ghost use Rattle.dpl_laminar.specs.declared.TheConstants.{MOST_MEMBERS};
 ghost use Rattle.dpl_laminar.specs.Storing.{sets_of, AreOnce};
 ghost use Rattle.dpl_tree.specs.Stages.{AreRanked};
 ghost use Rattle.dpl_flood.specs.Forested.{IsForested, trees_of};
@@ -43,7 +44,7 @@ fn seat_all(arena: &mut Arena, held: &mut Held, faces: &[u32]) -> Result<(), All
 
 /// So many members in their order.
 fn members_below(alloc: Global, size: usize) -> Result<Vec<u32>, AllocError>
-    requires { size ≤ 2048 }
+    requires { size ≤ MOST_MEMBERS }
     ensures length { IfOk result (λ members. length members.items ≡ size) }
     ensures each { IfOk result (λ members. (k : ℕ) → k < size → slice_index members.items k ≡ k) }
 {

@@ -1,11 +1,11 @@
 //! A free top that was met goes into a tree.
 
-ghost use Rattle.std.specs.Prelude.{◌≡◌, ◌^◌, OnOk};
+ghost use Rattle.std.specs.Prelude.{◌≡◌, OnOk};
 ghost use Rattle.dpl_flood.specs.Events.{Meets};
 ghost use Rattle.dpl_flood.specs.Forested.{IsForested, IsNearer, trees_of};
 ghost use Rattle.dpl_flood.specs.States.{AreKeys, sea_of};
 ghost use Rattle.dpl_flood.specs.Steps.{step_rows};
-ghost use Rattle.dpl_tree.specs.Stages.{AreRanked};
+ghost use Rattle.dpl_tree.specs.Stages.{most_rank, AreRanked};
 
 use crate::event::Crossing;
 use crate::meeting::tie;
@@ -31,7 +31,7 @@ pub fn enter(
     requires keys { AreKeys dual.now state.old queue.old }
     requires steps { steps.now ≡ step_rows dual.now.crosses dual.now.faces }
     requires meets { Meets dual.now (sea_of state.old) 0 ahead }
-    requires low { AreRanked (trees_of state.old) (2 ^ 59) }
+    requires low { AreRanked (trees_of state.old) most_rank }
     ensures forest { OnOk result (IsForested dual.now state.new) }
     ensures keys { OnOk result (AreKeys dual.now state.new queue.new) }
     ensures nearer { OnOk result (IsNearer state.old state.new) }

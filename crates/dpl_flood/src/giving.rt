@@ -1,9 +1,9 @@
 //! A top that falls and has nothing left gives way to its children.
 
-ghost use Rattle.std.specs.Prelude.{◌≡◌, ℕ, ◌+◌, ◌*◌, ◌<◌, ◌≤◌, ◌^◌, true, Some, length, slice_index, IfOk, OnOk};
+ghost use Rattle.std.specs.Prelude.{◌≡◌, ℕ, ◌+◌, ◌*◌, ◌<◌, ◌≤◌, true, Some, length, slice_index, IfOk, OnOk};
 ghost use Rattle.dpl_laminar.specs.Storing.{sets_of};
 ghost use Rattle.dpl_dual.specs.declared.crosses.Dual.{Dual};
-ghost use Rattle.dpl_tree.specs.Stages.{AreRanked};
+ghost use Rattle.dpl_tree.specs.Stages.{most_rank, AreRanked};
 ghost use Rattle.dpl_flood.specs.Events.{IsSpent};
 ghost use Rattle.dpl_flood.specs.Forested.{IsForested, IsNearer, trees_of};
 ghost use Rattle.dpl_flood.specs.Givings.{AreSettled, HasOpened, AreChildren, AreKeyedAll};
@@ -51,7 +51,7 @@ fn open<L: Ledger>(
     requires forest { (d : Dual) × IsForested d state.old }
     requires spent { IsSpent state.old set }
     requires above { (sets_of state.old.family).size ≤ set }
-    requires low { AreRanked (trees_of state.old) (2 ^ 59) }
+    requires low { AreRanked (trees_of state.old) most_rank }
     ensures opened { IfOk result (λ _. HasOpened state.old set state.new) }
     ensures children { IfOk result (λ children. AreChildren (sets_of state.old.family) set children.items) }
 {
@@ -106,7 +106,7 @@ pub fn give_way<L: Ledger>(
     requires ways { ways.now ≡ step_rows dual.now.crosses dual.now.faces }
     requires spent { IsSpent state.old set }
     requires above { (sets_of state.old.family).size ≤ set }
-    requires low { AreRanked (trees_of state.old) (2 ^ 59) }
+    requires low { AreRanked (trees_of state.old) most_rank }
     ensures forest { OnOk result (IsForested dual.now state.new) }
     ensures keys { OnOk result (AreKeys dual.now state.new queue.new) }
     ensures nearer { OnOk result (IsNearer state.old state.new) }

@@ -7,7 +7,7 @@ ghost use Rattle.dpl_flood.specs.Dues.{AreLooked};
 ghost use Rattle.dpl_flood.specs.Holdings.{stack_of};
 ghost use Rattle.dpl_flood.specs.Queues.{never};
 ghost use Rattle.dpl_flood.specs.Seas.{sides_of, tide_of, due_of};
-ghost use Rattle.dpl_flood.specs.States.{IsState, sea_of, fall_of, AreKeyed, AreKeyedAround, AreKeyedOn, AreKeyedFor, SeatsOn, StacksOn};
+ghost use Rattle.dpl_flood.specs.States.{IsState, sea_of, fall_of, AreKeyed, AreKeyedAround, AreKeyedOn, AreKeyedFor, IsStackedOn, SeatsOf, StacksOf};
 ghost use Rattle.dpl_flood.specs.Steps.{step_rows};
 
 use crate::queue::Queue;
@@ -55,38 +55,69 @@ pub fn look_at(state: &State, dual: &Dual, steps: &Grouped<Step>, queue: &mut Qu
     }
 }
 
-/// Sets the keys of all ways at the seats of the members of a top anew.
-fn look_seats(state: &State, dual: &Dual, steps: &Grouped<Step>, queue: &mut Queue, top: u32)
+/// Sets the keys of all ways at the seats of these members anew.
+fn look_seats(state: &State, dual: &Dual, steps: &Grouped<Step>, queue: &mut Queue, members: &[u32])
     requires state { IsState dual.now state.now }
     requires steps { steps.now ≡ step_rows dual.now.crosses dual.now.faces }
+    requires members { All (λ m. m < (sets_of state.now.family).size) members.now }
     requires places { length dual.now.crosses ≤ length queue.old }
-    ensures { AreKeyedFor dual.now (sea_of state.now) (SeatsOn (sea_of state.now) state.now.seats top (sets_of state.now.family).size) queue.old queue.new }
+    ensures { AreKeyedFor dual.now (sea_of state.now) (SeatsOf state.now.seats members.now (length members.now))
+        queue.old queue.new }
 {
     let seats = state.seats.as_slice();
-    for i in 0..seats.len() {
-        if state.family.tops(i as u32) == top {
-            look_around(state, dual, steps, queue, seats[i]);
-        }
+    for i in 0..members.len() {
+        look_around(state, dual, steps, queue, seats[members[i] as usize]);
     }
 }
 
-/// Sets the keys of all ways at the faces that the sets of a top took anew.
-fn look_stacks(state: &State, dual: &Dual, steps: &Grouped<Step>, queue: &mut Queue, top: u32)
+/// Sets the keys of all ways at the faces that a set took anew, if these stand on a top.
+fn look_stack(
+    state: &State,
+    dual: &Dual,
+    steps: &Grouped<Step>,
+    queue: &mut Queue,
+    set: u32,
+    top: u32,
+)
     requires state { IsState dual.now state.now }
     requires steps { steps.now ≡ step_rows dual.now.crosses dual.now.faces }
+    requires set { set < 2 * (sets_of state.now.family).size }
     requires top { top < 2 * (sets_of state.now.family).size }
     requires places { length dual.now.crosses ≤ length queue.old }
-    ensures { AreKeyedFor dual.now (sea_of state.now) (StacksOn (sea_of state.now) (stack_of state.now.held) top (2 * (sets_of state.now.family).size)) queue.old queue.new }
+    ensures { AreKeyedFor dual.now (sea_of state.now) (IsStackedOn (sea_of state.now) (stack_of state.now.held) top set)
+        queue.old queue.new }
 {
-    for i in 0..state.rests.len() {
-        let set = i as u32;
-        if state.is_stack_on(set, top) {
-            look_at(state, dual, steps, queue, state.held.faces(set));
-        }
+    if state.is_stack_on(set, top) {
+        look_at(state, dual, steps, queue, state.held.faces(set));
     }
 }
 
-/// Sets the keys of all ways at the faces of a top anew. It costs the members, and the ways at the faces of the top.
+/// Sets the keys of all ways at the faces that the sets of these members took anew, as far as these stand on a top. A set has the
+/// number of a member of it, and a greater one the same behind those of the singles.
+fn look_stacks(
+    state: &State,
+    dual: &Dual,
+    steps: &Grouped<Step>,
+    queue: &mut Queue,
+    members: &[u32],
+    top: u32,
+)
+    requires state { IsState dual.now state.now }
+    requires steps { steps.now ≡ step_rows dual.now.crosses dual.now.faces }
+    requires members { All (λ m. m < (sets_of state.now.family).size) members.now }
+    requires top { top < 2 * (sets_of state.now.family).size }
+    requires places { length dual.now.crosses ≤ length queue.old }
+    ensures { AreKeyedFor dual.now (sea_of state.now) (StacksOf (sea_of state.now) (stack_of state.now.held) top
+        members.now (length members.now)) queue.old queue.new }
+{
+    let size = state.inners.len() as u32;
+    for i in 0..members.len() {
+        look_stack(state, dual, steps, queue, members[i], top);
+        look_stack(state, dual, steps, queue, size + members[i], top);
+    }
+}
+
+/// Sets the keys of all ways at the faces of a top anew. It costs its members, and the ways at its faces.
 pub fn look_top(state: &State, dual: &Dual, steps: &Grouped<Step>, queue: &mut Queue, top: u32)
     requires state { IsState dual.now state.now }
     requires steps { steps.now ≡ step_rows dual.now.crosses dual.now.faces }
@@ -94,8 +125,9 @@ pub fn look_top(state: &State, dual: &Dual, steps: &Grouped<Step>, queue: &mut Q
     requires places { length dual.now.crosses ≤ length queue.old }
     ensures keys { AreKeyedOn dual.now (sea_of state.now) top dual.now.faces queue.old queue.new }
 {
-    look_seats(state, dual, steps, queue, top);
-    look_stacks(state, dual, steps, queue, top);
+    let members = state.family.members(top);
+    look_seats(state, dual, steps, queue, members);
+    look_stacks(state, dual, steps, queue, members, top);
 }
 
 /// Sets the key of a way anew.

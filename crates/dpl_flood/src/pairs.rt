@@ -1,6 +1,7 @@
 //! The pairs of members, and the chains along which they are joined.
 
 ghost use Rattle.std.specs.Prelude.{◌≡◌, ◌<◌, ◌≤◌, ℕ, All, Some, length, slice_index, IfOk, OnOk};
+ghost use Rattle.dpl_laminar.specs.declared.TheConstants.{MOST_MEMBERS};
 ghost use Rattle.dpl_laminar.specs.Families.{Sets, load_of};
 ghost use Rattle.dpl_laminar.specs.Pairings.{IsPairing, pairs_sum};
 ghost use Rattle.dpl_laminar.specs.Storing.{sets_of};
@@ -57,7 +58,7 @@ pub fn join_pairs(
     requires nodes { AreNodes ways.now arena.now }
     requires joins { AreJoins ways.now arena.now joins.now }
     requires seats { HaveSeats arena.now seats.now }
-    requires few { length seats.now ≤ 2048 }
+    requires few { length seats.now ≤ MOST_MEMBERS }
     requires members { length mate.now ≡ length seats.now }
     requires pairing { IsPairing (length seats.now) (slice_index mate.now) }
     requires some { (m : ℕ) → m < length seats.now →

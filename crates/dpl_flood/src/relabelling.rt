@@ -1,8 +1,9 @@
 //! Tops begin to grow or to fall, and rest no more. No moat moves.
 
-ghost use Rattle.std.specs.Prelude.{◌≡◌, ℕ, ◌*◌, ◌<◌, ◌^◌, false, List, Option, slice_index, slice_index_or, IfOk, OnOk, OnErr};
+ghost use Rattle.std.specs.Prelude.{◌≡◌, ℕ, ◌*◌, ◌<◌, ◌≤◌, false, List, Option, slice_index, slice_index_or, IfOk, OnOk, OnErr};
 ghost use Rattle.dpl_laminar.specs.Storing.{sets_of};
 ghost use Rattle.dpl_dual.specs.declared.crosses.Dual.{Dual};
+ghost use Rattle.dpl_tree.specs.Stages.{most_rank};
 ghost use Rattle.dpl_tree.specs.steps.Forests as forests;
 ghost use Rattle.dpl_tree.specs.Views as views;
 ghost use Rattle.dpl_tree.specs.Views.{forest_of, place_in};
@@ -24,7 +25,7 @@ pub fn grow(state: &mut State, from: u32, to: u32, mate: u32)
     requires to { to < (sets_of state.old.family).size }
     requires mate { mate < (sets_of state.old.family).size }
     requires sized { views.IsSized (sets_of state.old.family).size state.old.tree }
-    requires low { (i : ℕ) → slice_index state.old.tree.ranks.items i < 2 ^ 60 }
+    requires low { (i : ℕ) → slice_index state.old.tree.ranks.items i ≤ most_rank }
     requires free { MayGrow (sea_of state.old) ((sets_of state.old.family).top to) ((sets_of state.old.family).top mate) }
     ensures grows { Grows (sea_of state.old) ((sets_of state.old.family).top to) ((sets_of state.old.family).top mate)
         (gains_in (place_in state.new.tree.labels.items)) (losses_in (place_in state.new.tree.labels.items))

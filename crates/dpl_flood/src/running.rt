@@ -3,7 +3,7 @@
 ghost use Rattle.std.specs.Prelude.{◌≡◌, ℕ, ◌%◌, ◌^◌, ◌<◌, true, false, OnOk};
 ghost use Rattle.dpl_laminar.specs.Storing.{sets_of};
 ghost use Rattle.dpl_dual.specs.declared.crosses.Dual.{Dual};
-ghost use Rattle.dpl_tree.specs.Stages.{AreRanked};
+ghost use Rattle.dpl_tree.specs.Stages.{most_rank, AreRanked};
 ghost use Rattle.dpl_tree.specs.steps.Forests.{free};
 ghost use Rattle.dpl_flood.specs.Ended.{IsOnward};
 ghost use Rattle.dpl_flood.specs.Events.{HasCome, IsSpent};
@@ -44,7 +44,7 @@ fn end_fall<L: Ledger>(
     requires keys { AreKeys dual.now state.old queue.old }
     requires ways { ways.now ≡ step_rows dual.now.crosses dual.now.faces }
     requires spent { IsSpent state.old set }
-    requires low { AreRanked (trees_of state.old) (2 ^ 59) }
+    requires low { AreRanked (trees_of state.old) most_rank }
     ensures forest { OnOk result (IsForested dual.now state.new) }
     ensures keys { OnOk result (AreKeys dual.now state.new queue.new) }
     ensures nearer { OnOk result (IsNearer state.old state.new) }
@@ -70,7 +70,7 @@ fn change<L: Ledger>(
     requires ways { ways.now ≡ step_rows dual.now.crosses dual.now.faces }
     requires come { HasCome dual.now state.old event }
     requires trees { IsOfTrees event }
-    requires low { AreRanked (trees_of state.old) (2 ^ 59) }
+    requires low { AreRanked (trees_of state.old) most_rank }
     ensures forest { OnOk result (IsForested dual.now state.new) }
     ensures keys { OnOk result (AreKeys dual.now state.new queue.new) }
     ensures onward { OnOk result (IsOnward dual.now state.old state.new) }
@@ -97,7 +97,7 @@ pub fn go_on<L: Ledger>(
     requires keys { AreKeys dual.now state.old queue.old }
     requires ways { ways.now ≡ step_rows dual.now.crosses dual.now.faces }
     requires two { AreTwo dual.now state.old }
-    requires low { AreRanked (trees_of state.old) (2 ^ 59) }
+    requires low { AreRanked (trees_of state.old) most_rank }
     ensures forest { OnOk result (IsForested dual.now state.new) }
     ensures keys { OnOk result (AreKeys dual.now state.new queue.new) }
     ensures forward { OnOk result (IsForward state.old state.new) }

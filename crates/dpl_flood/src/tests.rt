@@ -12,9 +12,9 @@ use crate::{
     Arena, Event, Held, Join, Keys, Lent, NoMemory, Queue, Stamped, State, first_keys, meet,
     steps_at, sweep,
 };
-use dpl_dual::{Cross, Dual, Rows};
+use dpl_dual::{Cross, Dual};
 use dpl_laminar::{Family, Steps};
-use dpl_list::{Grouped, Items};
+use dpl_list::Items;
 use std::alloc::Global;
 use std::marker::Brand;
 use std::sync::ledger::{Blank, Ledger};
@@ -190,17 +190,11 @@ fn row_of_faces(alloc: Global) -> Result<Dual, NoMemory>
     let crosses = Items::new(Vec::from_slice(alloc, &ways)?);
     let odd = Items::new(Vec::from_slice(alloc, ends)?);
     let part = Items::new(Vec::from_slice(alloc, same)?);
-    let by_face = Grouped::by_key(alloc, 4, &[], &[])?;
     Ok(Dual {
         faces: 4,
         crosses,
         odd,
         part,
-        rows: Rows {
-            by_face,
-            least: 2,
-            greatest: 4,
-        },
     })
 }
 

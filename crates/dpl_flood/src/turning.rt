@@ -1,7 +1,8 @@
 //! Tops begin to move, and the keys that this bears on are set anew.
 
-ghost use Rattle.std.specs.Prelude.{◌≡◌, ◌≢◌, ℕ, ◌*◌, ◌<◌, ◌^◌, false, List, Option, slice_index, slice_index_or};
+ghost use Rattle.std.specs.Prelude.{◌≡◌, ◌≢◌, ℕ, ◌*◌, ◌<◌, ◌≤◌, false, List, Option, slice_index, slice_index_or};
 ghost use Rattle.dpl_laminar.specs.Storing.{sets_of};
+ghost use Rattle.dpl_tree.specs.Stages.{most_rank};
 ghost use Rattle.dpl_tree.specs.steps.Forests as forests;
 ghost use Rattle.dpl_tree.specs.Views as views;
 ghost use Rattle.dpl_tree.specs.Views.{forest_of, place_in};
@@ -37,7 +38,7 @@ pub(crate) fn turn(
     requires to { to < (sets_of state.old.family).size }
     requires mate { mate < (sets_of state.old.family).size }
     requires sized { views.IsSized (sets_of state.old.family).size state.old.tree }
-    requires low { (i : ℕ) → slice_index state.old.tree.ranks.items i < 2 ^ 60 }
+    requires low { (i : ℕ) → slice_index state.old.tree.ranks.items i ≤ most_rank }
     requires free { MayGrow (sea_of state.old) ((sets_of state.old.family).top to) ((sets_of state.old.family).top mate) }
     ensures grows { Grows (sea_of state.old) ((sets_of state.old.family).top to) ((sets_of state.old.family).top mate)
         (gains_in (place_in state.new.tree.labels.items)) (losses_in (place_in state.new.tree.labels.items))

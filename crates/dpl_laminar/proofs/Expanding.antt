@@ -7,11 +7,12 @@ use Rattle.std.proofs.lemmas.List.{get_or_past}
 use Rattle.std.proofs.lemmas.Option.{same_Some}
 use Rattle.dpl_laminar.specs.Families.{Sets, IsTie, has}
 use Rattle.dpl_laminar.specs.Changes.{IsExpanded}
-use Rattle.dpl_laminar.specs.Storing.{Stored, sets_of, walk, IsKept, IsCircle}
+use Rattle.dpl_laminar.specs.Storing.{Stored, sets_of, walk, IsKept, IsCircle, IsRow}
 use Rattle.dpl_laminar.proofs.Numbers.{has_at, place_in, true_false, some_none}
 use Rattle.dpl_laminar.proofs.Walks.{walk_same, length_walk}
 use Rattle.dpl_laminar.proofs.Lifting.{AreLifted}
 use Rattle.dpl_laminar.proofs.Released.{released}
+use Rattle.dpl_laminar.proofs.Rows.{none_row}
 use Rattle.dpl_laminar.proofs.Keeping.{live_below}
 use Rattle.dpl_laminar.proofs.Shrinking.{childless_past}
 
@@ -98,8 +99,8 @@ expanded s r ps rg ts p least live top w =
       sets = record {
         live_set = get_or-set_same s.live r false false (omega (arith, p.live_length));
         live_others = λ i ne. get_or-set_other s.live r i false false ne;
-        holds_set = λ m h. ap (λ z. get_or z m false) (get_or-set_same s.rows r [] [] (omega (arith, p.rows_length)));
-        holds_others = λ i m hi ne h. ap (λ z. get_or z m false) (get_or-set_other s.rows r i [] [] ne);
+        holds_set = λ m h. ap (λ z. has z m) (get_or-set_same s.rows r [] [] (omega (arith, p.rows_length)));
+        holds_others = λ i m hi ne h. ap (λ z. has z m) (get_or-set_other s.rows r i [] [] ne);
         parent_child = λ i h. w.parents i ∙ cond-true (has (f.children r) i) _ _ h;
         parent_others = λ i h. w.parents i ∙ cond-false (has (f.children r) i) _ _ h;
         children_set = ap (λ z. walk (λ c. get_or rg c 0) (get_or s.firsts r 0) z) (get_or-set_same s.counts r 0 0 (omega (arith, p.counts_length)));
@@ -141,7 +142,7 @@ expanded_kept s r ps rg ts p least live top none w t =
     let g : Sets = sets_of (without_set s r ps rg ts) in
     let below : r < 2 * s.size = live_below s r p live in
     let still : (i m : ℕ) → i ≢ r → f.holds i m ≡ true → g.holds i m ≡ true =
-    λ i m ne h. ap (λ z. get_or z m false) (get_or-set_other s.rows r i [] [] ne) ∙ h in
+    λ i m ne h. ap (λ z. has z m) (get_or-set_other s.rows r i [] [] ne) ∙ h in
     let inner : (c d : ℕ) → f.parent c ≡ Some d → c ≢ r = λ c d e z. some_none (f.parent c) d e (ap f.parent z ∙ top) in
     record {
       live_length = length-set s.live r false ∙ p.live_length;
@@ -156,6 +157,13 @@ expanded_kept s r ps rg ts p least live top none w t =
       row_dead = λ i dead. elim (cases_eq i r) [
         | inl e ↦ ap (λ z. get_or (set s.rows r []) z []) e ∙ get_or-set_same s.rows r [] [] (omega (arith, p.rows_length))
         | inr ne ↦ get_or-set_other s.rows r i [] [] ne ∙ p.row_dead i (sym (t.sets.live_others i ne) ∙ dead)
+      ];
+      rows_are = λ i. elim (cases_eq i r) [
+        | inl e ↦
+            let written : get_or (set s.rows r []) i [] ≡ [] =
+            ap (λ z. get_or (set s.rows r []) z []) e ∙ get_or-set_same s.rows r [] [] (omega (arith, p.rows_length)) in
+            subst (IsRow s.size) (sym written) (none_row s.size)
+        | inr ne ↦ subst (IsRow s.size) (sym (get_or-set_other s.rows r i [] [] ne)) (p.rows_are i)
       ];
       family = record {
         small = p.family.small;

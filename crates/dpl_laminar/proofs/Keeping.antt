@@ -1,18 +1,20 @@
 -- The lists of a family after each of its calls.
 use Rattle.std.proofs.Common.{arith, ◌≡◌, ◌≢◌, ℕ, ◌*◌, ◌<◌, ◌≤◌, ◌^◌, refl, sym, ap, ◌∙◌, subst, true, false, inl, inr}
-use Rattle.std.proofs.Common.{eqb, ltb, List, Bool, Option, [], length, get_or, set, length-set, get_or-set_same, get_or-set_other, None}
+use Rattle.std.proofs.Common.{ltb, List, Bool, Option, [], ◌∷◌, length, get_or, set, length-set, get_or-set_same, get_or-set_other, None}
 use Rattle.std.specs.Prelude.{replicate}
 use Rattle.std.proofs.lemmas.Bool.{cases_eq, cases_lt, ne_eqb, lt-ltb}
 use Rattle.std.proofs.lemmas.List.{get_or_past, get_or_read, length-replicate}
-use Rattle.dpl_laminar.specs.Families.{Sets, IsLaminar, IsTie}
+use Rattle.dpl_laminar.specs.declared.TheConstants.{MOST_MEMBERS}
+use Rattle.dpl_laminar.specs.Families.{Sets, IsLaminar, IsTie, has}
 use Rattle.dpl_laminar.specs.Changes.{IsSingles, IsNext}
-use Rattle.dpl_laminar.specs.Storing.{Stored, sets_of, walk, IsKept}
+use Rattle.dpl_laminar.specs.Storing.{Stored, sets_of, walk, IsKept, IsRow}
 use Rattle.dpl_laminar.proofs.Numbers.{true_false, cases_Option}
+use Rattle.dpl_laminar.proofs.Rows.{has_single, single_row, none_row}
 use Rattle.dpl_laminar.proofs.Singles.{singles_family}
 use Rattle.dpl_list.proofs.Lists.{repeated}
 
 -- lists that keep sets
-abbrev pub stored : (size : ℕ) (live : List Bool) (rows : List (List Bool)) (values : List ℕ)
+abbrev pub stored : (size : ℕ) (live : List Bool) (rows : List (List ℕ)) (values : List ℕ)
     → (parents : List (Option ℕ)) (firsts counts ring : List ℕ) (joins : List (ℕ × ℕ)) → (tops : List ℕ)
     → Stored
 stored size live rows values parents firsts counts ring joins tops = record {
@@ -50,7 +52,7 @@ pub record AreStart (s : Stored) : Type 0 where
   pub live_length : length s.live ≡ 2 * s.size
   pub live : (k : ℕ) → k < 2 * s.size → get_or s.live k false ≡ ltb k s.size
   pub rows_length : length s.rows ≡ 2 * s.size
-  pub row_single : (i m : ℕ) → i < s.size → m < s.size → get_or (get_or s.rows i []) m false ≡ eqb i m
+  pub row_single : (i : ℕ) → i < s.size → get_or s.rows i [] ≡ i ∷ []
   pub row_none : (i : ℕ) → s.size ≤ i → get_or s.rows i [] ≡ []
   pub values : s.values ≡ replicate (2 * s.size) 0
   pub parents : s.parents ≡ replicate (2 * s.size) None
@@ -67,8 +69,8 @@ start_singles s p = record {
   size = refl;
   live = p.live;
   holds = λ i m hi hm. elim (cases_lt i s.size) [
-    | inl lt ↦ p.row_single i m lt hm
-    | inr le ↦ ap (λ z. get_or z m false) (p.row_none i le) ∙ sym (ne_eqb i m (λ e. omega arith))
+    | inl lt ↦ ap (λ z. has z m) (p.row_single i lt) ∙ has_single i m
+    | inr le ↦ ap (λ z. has z m) (p.row_none i le) ∙ sym (ne_eqb i m (λ e. omega arith))
   ];
   value = λ i. ap (λ z. get_or z i 0) p.values ∙ repeated (2 * s.size) i 0;
   parent = λ i. ap (λ z. get_or z i None) p.parents ∙ repeated (2 * s.size) i None;
@@ -77,7 +79,7 @@ start_singles s p = record {
   top = p.tops;
 }
 
-pub start_kept : (s : Stored) → AreStart s → s.size ≤ 2048 → IsKept s
+pub start_kept : (s : Stored) → AreStart s → s.size ≤ MOST_MEMBERS → IsKept s
 start_kept s p small = record {
   live_length = p.live_length;
   rows_length = p.rows_length;
@@ -91,6 +93,10 @@ start_kept s p small = record {
   row_dead = λ i dead. elim (cases_lt i s.size) [
     | inl lt ↦ true_false (get_or s.live i false) (p.live i (omega arith) ∙ lt-ltb i s.size lt) dead
     | inr le ↦ p.row_none i le
+  ];
+  rows_are = λ i. elim (cases_lt i s.size) [
+    | inl lt ↦ subst (IsRow s.size) (sym (p.row_single i lt)) (single_row s.size i lt)
+    | inr le ↦ subst (IsRow s.size) (sym (p.row_none i le)) (none_row s.size)
   ];
   family = singles_family (sets_of s) (start_singles s p) small;
 }
@@ -146,6 +152,7 @@ raised_kept s i v p live small =
       joins_length = p.joins_length;
       tops_length = p.tops_length;
       row_dead = p.row_dead;
+      rows_are = p.rows_are;
       family = record {
         small = f.small;
         laminar = laminar_revalued s.size (sets_of s) (λ j. get_or (set s.values i v) j 0) f.laminar;

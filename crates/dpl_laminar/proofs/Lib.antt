@@ -6,6 +6,7 @@ mod Lifting
 pub mod Numbers
 pub mod Reached
 pub mod Released
+mod Rows
 mod Shrinking
 mod Singles
 pub mod Sums

@@ -7,7 +7,7 @@ use Rattle.std.proofs.lemmas.List.{get_or_past}
 use Rattle.std.specs.List.{list_any}
 use Rattle.dpl_laminar.specs.Families.{Sets, IsLaminar, IsTie, has}
 use Rattle.dpl_laminar.specs.Changes.{AreJoined, IsShrunk}
-use Rattle.dpl_laminar.specs.Storing.{Stored, sets_of, walk, IsKept, IsNameOf}
+use Rattle.dpl_laminar.specs.Storing.{Stored, sets_of, walk, IsKept, IsRow, IsNameOf}
 use Rattle.dpl_laminar.proofs.Numbers.{has_at, has_head, has_tail, place_in, true_false, some_none}
 use Rattle.dpl_laminar.proofs.Walks.{walk_is, walk_same, length_walk, around_next}
 use Rattle.dpl_laminar.proofs.Gathered.{gathered}
@@ -15,20 +15,20 @@ use Rattle.dpl_laminar.proofs.Gathered.{gathered}
 -- two tops have no common member
 pub tops_apart : (s : Stored) (x y m : ℕ) → IsKept s → x < 2 * s.size → y < 2 * s.size
     → get_or s.parents x None ≡ None → get_or s.parents y None ≡ None → x ≢ y → m < s.size
-    → get_or (get_or s.rows x []) m false ≡ true → get_or (get_or s.rows y []) m false ≡ false
-tops_apart s x y m p hx hy tx ty ne hm h = elim (cases_Bool (get_or (get_or s.rows y []) m false)) [
+    → has (get_or s.rows x []) m ≡ true → has (get_or s.rows y []) m ≡ false
+tops_apart s x y m p hx hy tx ty ne hm h = elim (cases_Bool (has (get_or s.rows y []) m)) [
   | inl k ↦ absurd (ne (sym (p.family.laminar.tops.top_alone x m hx hm tx h) ∙ p.family.laminar.tops.top_alone y m hy hm ty k))
   | inr k ↦ k
 ]
 
 -- a top holds a member exactly where it is the member's top
 held_by_top : (s : Stored) (c m : ℕ) → IsKept s → c < 2 * s.size → get_or s.parents c None ≡ None → m < s.size
-    → get_or (get_or s.rows c []) m false ≡ eqb c (get_or s.tops m 0)
+    → has (get_or s.rows c []) m ≡ eqb c (get_or s.tops m 0)
 held_by_top s c m p hc tc hm = elim (cases_eq c (get_or s.tops m 0)) [
   | inl e ↦
-      ap (λ z. get_or (get_or s.rows z []) m false) e ∙ p.family.laminar.tops.top_holds m hm ∙
+      ap (λ z. has (get_or s.rows z []) m) e ∙ p.family.laminar.tops.top_holds m hm ∙
       sym (eq-eqb c (get_or s.tops m 0) e)
-  | inr ne ↦ (elim (cases_Bool (get_or (get_or s.rows c []) m false)) as (λ _. get_or (get_or s.rows c []) m false ≡ false) [
+  | inr ne ↦ (elim (cases_Bool (has (get_or s.rows c []) m)) as (λ _. has (get_or s.rows c []) m ≡ false) [
     | inl k ↦ absurd (ne (sym (p.family.laminar.tops.top_alone c m hc hm tc k)))
     | inr k ↦ k
   ]) ∙ sym (ne_eqb c (get_or s.tops m 0) ne)
@@ -47,8 +47,8 @@ any_same (c ∷ cs) p q e =
 
 -- the members of some tops are those whose tops they are
 pub members_united : (s : Stored) (cs : List ℕ) (js : List (ℕ × ℕ)) (m : ℕ) → IsKept s → AreJoined (sets_of s) cs js → m < s.size
-    → list_any (λ c. get_or (get_or s.rows c []) m false) cs ≡ has cs (get_or s.tops m 0)
-members_united s cs js m p j hm = any_same cs (λ c. get_or (get_or s.rows c []) m false) (λ c. eqb c (get_or s.tops m 0))
+    → list_any (λ c. has (get_or s.rows c []) m) cs ≡ has cs (get_or s.tops m 0)
+members_united s cs js m p j hm = any_same cs (λ c. has (get_or s.rows c []) m) (λ c. eqb c (get_or s.tops m 0))
     (λ c k. held_by_top s c m p (j.tops.below c k) (j.tops.parentless c k) hm)
 
 -- the number that a new set gets is free
@@ -77,9 +77,10 @@ shrunk_free s cs js q p j (inl w) = let k = has_at cs 0 (omega (arith, j.tops.se
 shrunk_free s cs js q p j (inr w) = let k = has_at cs 1 (omega (arith, j.tops.several)) in name_free s q _ _ p w (j.tops.below _ k) (j.tops.parentless _ k)
 
 -- what the writes of a new set leave
-pub record AreWritten (s : Stored) (cs : List ℕ) (js : List (ℕ × ℕ)) (r : ℕ) (row : List Bool) (ps : List (Option ℕ))
+pub record AreWritten (s : Stored) (cs : List ℕ) (js : List (ℕ × ℕ)) (r : ℕ) (row : List ℕ) (ps : List (Option ℕ))
     (rg : List ℕ) (jn : List (ℕ × ℕ)) (ts : List ℕ) : Type 0 where
-  pub members : (m : ℕ) → m < s.size → get_or row m false ≡ has cs (get_or s.tops m 0)
+  pub row_is : IsRow s.size row
+  pub members : (m : ℕ) → m < s.size → has row m ≡ has cs (get_or s.tops m 0)
   pub parents_length : length ps ≡ length s.parents
   pub parents : (i : ℕ) → get_or ps i None ≡ cond (has cs i) (Some r) (get_or s.parents i None)
   pub ring_length : length rg ≡ length s.ring
@@ -91,7 +92,7 @@ pub record AreWritten (s : Stored) (cs : List ℕ) (js : List (ℕ × ℕ)) (r :
   pub tops_length : length ts ≡ length s.tops
   pub tops : (m : ℕ) → m < length s.tops → get_or ts m 0 ≡ cond (has cs (get_or s.tops m 0)) r (get_or s.tops m 0)
 
-abbrev pub with_set : Stored → List ℕ → ℕ → List Bool → List (Option ℕ) → List ℕ → List (ℕ × ℕ) → List ℕ → Stored
+abbrev pub with_set : Stored → List ℕ → ℕ → List ℕ → List (Option ℕ) → List ℕ → List (ℕ × ℕ) → List ℕ → Stored
 with_set s cs r row ps rg jn ts = record s {
   live = set s.live r true;
   rows = set s.rows r row;
@@ -116,7 +117,7 @@ no_top s cs js d c p j hd k = elim (cases_Bool (has cs c)) [
 pub childless_past : (s : Stored) (d : ℕ) → IsKept s → 2 * s.size ≤ d → get_or s.counts d 0 ≡ 0
 childless_past s d p h = get_or_past s.counts d 0 (omega (arith, p.counts_length))
 
-children_kept : (s : Stored) (cs : List ℕ) (js : List (ℕ × ℕ)) (r : ℕ) (row : List Bool) (ps : List (Option ℕ)) (rg : List ℕ) (jn : List (ℕ × ℕ)) (ts : List ℕ)
+children_kept : (s : Stored) (cs : List ℕ) (js : List (ℕ × ℕ)) (r : ℕ) (row : List ℕ) (ps : List (Option ℕ)) (rg : List ℕ) (jn : List (ℕ × ℕ)) (ts : List ℕ)
     → IsKept s → AreJoined (sets_of s) cs js → AreWritten s cs js r row ps rg jn ts → (i : ℕ) → i ≢ r
     → (sets_of (with_set s cs r row ps rg jn ts)).children i ≡ (sets_of s).children i
 children_kept s cs js r row ps rg jn ts p j w i ne =
@@ -131,7 +132,7 @@ children_kept s cs js r row ps rg jn ts p j w i ne =
     ] in
     ap (λ z. walk after z (get_or (set s.counts r (length cs)) i 0)) first ∙ ap (λ z. walk after (get_or s.firsts i 0) z) count ∙ moved
 
-children_made : (s : Stored) (cs : List ℕ) (js : List (ℕ × ℕ)) (r : ℕ) (row : List Bool) (ps : List (Option ℕ)) (rg : List ℕ) (jn : List (ℕ × ℕ)) (ts : List ℕ)
+children_made : (s : Stored) (cs : List ℕ) (js : List (ℕ × ℕ)) (r : ℕ) (row : List ℕ) (ps : List (Option ℕ)) (rg : List ℕ) (jn : List (ℕ × ℕ)) (ts : List ℕ)
     → IsKept s → r < 2 * s.size → 3 ≤ length cs → AreWritten s cs js r row ps rg jn ts
     → (sets_of (with_set s cs r row ps rg jn ts)).children r ≡ cs
 children_made s cs js r row ps rg jn ts p below several w =
@@ -141,7 +142,7 @@ children_made s cs js r row ps rg jn ts p below several w =
     ap (λ z. walk after z (get_or (set s.counts r (length cs)) r 0)) first ∙ ap (λ z. walk after (get_or cs 0 0) z) count ∙
     walk_is after cs (omega (arith, several)) (λ i h. w.circle i (omega arith) ∙ ap (λ z. get_or cs z 0) (around_next i (length cs) h))
 
-pub shrunk : (s : Stored) (cs : List ℕ) (js : List (ℕ × ℕ)) (r : ℕ) (row : List Bool) (ps : List (Option ℕ)) (rg : List ℕ) (jn : List (ℕ × ℕ)) (ts : List ℕ)
+pub shrunk : (s : Stored) (cs : List ℕ) (js : List (ℕ × ℕ)) (r : ℕ) (row : List ℕ) (ps : List (Option ℕ)) (rg : List ℕ) (jn : List (ℕ × ℕ)) (ts : List ℕ)
     → IsKept s → AreJoined (sets_of s) cs js → s.size ≤ r → r < 2 * s.size → get_or s.live r false ≡ false
     → AreWritten s cs js r row ps rg jn ts
     → IsShrunk (sets_of s) cs js r (sets_of (with_set s cs r row ps rg jn ts))
@@ -158,8 +159,8 @@ shrunk s cs js r row ps rg jn ts p j least below free w =
         live_set = get_or-set_same s.live r true false (omega (arith, p.live_length));
         live_others = λ i ne. get_or-set_other s.live r i true false ne;
         holds_set = λ m h.
-            ap (λ z. get_or z m false) (get_or-set_same s.rows r row [] (omega (arith, p.rows_length))) ∙ w.members m h;
-        holds_others = λ i m hi ne h. ap (λ z. get_or z m false) (get_or-set_other s.rows r i row [] ne);
+            ap (λ z. has z m) (get_or-set_same s.rows r row [] (omega (arith, p.rows_length))) ∙ w.members m h;
+        holds_others = λ i m hi ne h. ap (λ z. has z m) (get_or-set_other s.rows r i row [] ne);
         parent_child = λ i h. w.parents i ∙ cond-true (has cs i) _ _ h;
         parent_others = λ i h. w.parents i ∙ cond-false (has cs i) _ _ h;
         children_set = children_made s cs js r row ps rg jn ts p below j.tops.several w;
@@ -174,15 +175,15 @@ shrunk s cs js r row ps rg jn ts p j least below free w =
     }
 
 -- what holds a member is no free number
-held_still : (s : Stored) (r : ℕ) (row : List Bool) (i m : ℕ) → IsKept s → get_or s.live r false ≡ false
-    → get_or (get_or s.rows i []) m false ≡ true → get_or (get_or (set s.rows r row) i []) m false ≡ true
+held_still : (s : Stored) (r : ℕ) (row : List ℕ) (i m : ℕ) → IsKept s → get_or s.live r false ≡ false
+    → has (get_or s.rows i []) m ≡ true → has (get_or (set s.rows r row) i []) m ≡ true
 held_still s r row i m p free h = elim (cases_eq i r) [
-  | inl e ↦ true_false (get_or (get_or s.rows i []) m false) h
-      (ap (λ z. get_or (get_or s.rows z []) m false) e ∙ ap (λ z. get_or z m false) (p.row_dead r free))
-  | inr ne ↦ ap (λ z. get_or z m false) (get_or-set_other s.rows r i row [] ne) ∙ h
+  | inl e ↦ true_false (has (get_or s.rows i []) m) h
+      (ap (λ z. has (get_or s.rows z []) m) e ∙ ap (λ z. has z m) (p.row_dead r free))
+  | inr ne ↦ ap (λ z. has z m) (get_or-set_other s.rows r i row [] ne) ∙ h
 ]
 
-pub shrunk_kept : (s : Stored) (cs : List ℕ) (js : List (ℕ × ℕ)) (q : ℕ) (row : List Bool)
+pub shrunk_kept : (s : Stored) (cs : List ℕ) (js : List (ℕ × ℕ)) (q : ℕ) (row : List ℕ)
     → (ps : List (Option ℕ)) (rg : List ℕ) (jn : List (ℕ × ℕ)) (ts : List ℕ) → IsKept s
     → AreJoined (sets_of s) cs js → q < s.size → IsName s cs q
     → AreWritten s cs js (s.size + q) row ps rg jn ts
@@ -221,6 +222,13 @@ shrunk_kept s cs js q row ps rg jn ts p j lt name w t =
       row_dead = λ i dead. elim (cases_eq i r) [
         | inl e ↦ true_false (g.live i) (ap g.live e ∙ t.sets.live_set) dead
         | inr ne ↦ get_or-set_other s.rows r i row [] ne ∙ p.row_dead i (sym (t.sets.live_others i ne) ∙ dead)
+      ];
+      rows_are = λ i. elim (cases_eq i r) [
+        | inl e ↦
+            let written : get_or (set s.rows r row) i [] ≡ row =
+            ap (λ z. get_or (set s.rows r row) z []) e ∙ get_or-set_same s.rows r row [] (omega (arith, p.rows_length)) in
+            subst (IsRow s.size) (sym written) w.row_is
+        | inr ne ↦ subst (IsRow s.size) (sym (get_or-set_other s.rows r i row [] ne)) (p.rows_are i)
       ];
       family = record {
         small = p.family.small;
@@ -270,7 +278,7 @@ shrunk_kept s cs js q row ps rg jn ts p j lt name w t =
 pub row_fits : (s : Stored) (cs : List ℕ) (js : List (ℕ × ℕ)) (i : ℕ) → AreJoined (sets_of s) cs js → i < length cs → get_or cs i 0 < 2 * s.size
 row_fits s cs js i j h = j.tops.below _ (has_at cs i h)
 
-pub shrink_answer : (s : Stored) (cs : List ℕ) (js : List (ℕ × ℕ)) (q : ℕ) (row : List Bool)
+pub shrink_answer : (s : Stored) (cs : List ℕ) (js : List (ℕ × ℕ)) (q : ℕ) (row : List ℕ)
     → (ps ps' : List (Option ℕ)) (rg : List ℕ) (jn jn' : List (ℕ × ℕ)) (ts ts' : List ℕ) → IsKept s
     → AreJoined (sets_of s) cs js → q < s.size → IsName s cs q
     → AreWritten s cs js (s.size + q) row ps rg jn ts → ps' ≡ ps → jn' ≡ jn → ts' ≡ ts

@@ -1,6 +1,7 @@
 -- The family of single members.
 use Rattle.std.proofs.Common.{arith, ◌≡◌, ℕ, ◌+◌, ◌*◌, ◌%◌, ◌<◌, ◌≤◌, refl, sym, ap, ◌∙◌, Bool, true, cond, eqb, eq-eqb, length}
 use Rattle.std.proofs.lemmas.Bool.{eqb-true, ne_eqb, lt-ltb, ltb-true, ltb-false}
+use Rattle.dpl_laminar.specs.declared.TheConstants.{MOST_MEMBERS}
 use Rattle.dpl_laminar.specs.Loads.{size_of}
 use Rattle.dpl_laminar.specs.Families.{Sets, IsFamily, IsLaminar, has}
 use Rattle.dpl_laminar.specs.Changes.{IsSingles}
@@ -48,7 +49,7 @@ singles_laminar n f s =
       };
     }
 
-pub singles_family : (f : Sets) → IsSingles f.size f → f.size ≤ 2048 → IsFamily f
+pub singles_family : (f : Sets) → IsSingles f.size f → f.size ≤ MOST_MEMBERS → IsFamily f
 singles_family f s small = record {
   small = small;
   laminar = singles_laminar f.size f s;

@@ -1,5 +1,5 @@
 -- Sums over the numbers below n.
-use Rattle.std.proofs.Common.{arith, ◌≡◌, ℕ, zero, suc, ◌+◌, ◌*◌, ◌%◌, ◌<◌, ◌≤◌, ◌^◌, refl, sym, ap, ◌∙◌, Bool, true, false, cond, inl, inr, eqb, eq-eqb}
+use Rattle.std.proofs.Common.{arith, ◌≡◌, ℕ, zero, suc, ◌+◌, ◌*◌, ◌%◌, ◌<◌, ◌≤◌, refl, sym, ap, ◌∙◌, Bool, true, false, cond, inl, inr, eqb, eq-eqb}
 use Rattle.std.proofs.lemmas.Bool.{cases_eq, cond-true, cond-false, ne_eqb}
 use Rattle.std.proofs.Math.Nat.{add-mul}
 use Rattle.dpl_laminar.specs.Loads.{sum_below}
@@ -47,11 +47,6 @@ sum_parity (suc n) f g e = omega (arith, e n (omega arith), sum_parity n f g (λ
 pub sum_most_each : (k : ℕ) (f : ℕ → ℕ) (b : ℕ) → ((i : ℕ) → i < k → f i ≤ b) → sum_below k f ≤ k * b
 sum_most_each zero f b h = omega arith
 sum_most_each (suc k) f b h = omega (arith, h k (omega arith), sum_most_each k f b (λ i l. h i (omega arith)))
-
-pub sum_fits : (k s x size : ℕ) (f : ℕ → ℕ) → s ≡ sum_below k f → size ≤ 2048 → k < 2 * size → ((i : ℕ) → f i ≤ 2 ^ 50) → x ≤ 2 ^ 50 → s + x < 2 ^ 64
-sum_fits k s x size f e small h most hx =
-    let b : sum_below k f ≤ k * 2 ^ 50 = sum_most_each k f (2 ^ 50) (λ i _. most i) in
-    omega arith
 
 pub cond_most : (t : Bool) (x b : ℕ) → x ≤ b → cond t x 0 ≤ b
 cond_most true x b h = h

@@ -2,6 +2,7 @@
 -- trees, and flowers".
 use Rattle.std.specs.Prelude.{◌≡◌, ◌≢◌, ℕ, ◌+◌, ◌*◌, ◌%◌, ◌<◌, ◌≤◌, ◌==◌, ◌^◌, ◌++◌, zero, suc, Bool, true, false, if◌then◌else◌, Option, Some, None, option_and_then, List, [], ◌∷◌, length, slice_index}
 use Rattle.std.specs.List.{list_any}
+use Rattle.dpl_laminar.specs.declared.TheConstants.{MOST_MEMBERS}
 use Rattle.dpl_laminar.specs.Loads.{sum_below, size_of, load_in}
 
 -- A family over the members below its size. Its sets have numbers below twice the size, and the numbers below the size
@@ -117,7 +118,7 @@ next_in numbers i = slice_index numbers ((i + 1) % length numbers)
 
 -- what every family keeps
 pub record IsFamily (f : Sets) : Type 0 where
-  pub small : f.size ≤ 2048
+  pub small : f.size ≤ MOST_MEMBERS
   pub laminar : IsLaminar f.size f
   -- the children of a set stand in a ring in their order, and each other number alone
   pub around : (p i : ℕ) → i < length (f.children p) →

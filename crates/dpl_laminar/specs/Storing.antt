@@ -1,13 +1,14 @@
 -- How a family is kept: lists by the numbers of the sets, and one permutation for the rings of all sets.
-use Rattle.std.specs.Prelude.{◌≡◌, ◌≢◌, ℕ, ◌+◌, ◌*◌, ◌%◌, ◌<◌, ◌==◌, zero, suc, Bool, true, false, Option, None, List, [], ◌∷◌, length, slice_index, slice_index_or}
+use Rattle.std.specs.Prelude.{◌≡◌, ◌≢◌, ℕ, ◌+◌, ◌*◌, ◌%◌, ◌<◌, zero, suc, Bool, true, false, Option, None, List, [], ◌∷◌, length, slice_index, slice_index_or}
+use Rattle.std.specs.List.Sorted.{IsStrictlyIncreasing}
 use Rattle.dpl_laminar.specs.Families.{Sets, IsFamily, has}
 
 -- the lists
 pub record Stored : Type 0 where
   pub size : ℕ
   pub live : List Bool
-  -- for each set, which members it holds
-  pub rows : List (List Bool)
+  -- the members of each set, ascending
+  pub rows : List (List ℕ)
   pub values : List ℕ
   pub parents : List (Option ℕ)
   -- one child of each set, and how many it has
@@ -28,9 +29,9 @@ walk after first (suc count) = first ∷ walk after (after first) count
 abbrev pub circle_of : List ℕ → ℕ → ℕ → List ℕ
 circle_of ring first count = walk (slice_index ring) first count
 
--- a set holds a member, where each set has a row that tells of each member
-abbrev pub row_holds : List (List Bool) → ℕ → ℕ → Bool
-row_holds rows i m = slice_index_or (slice_index_or rows i []) m false
+-- a set holds a member, where each set has a row of its members
+abbrev pub row_holds : List (List ℕ) → ℕ → ℕ → Bool
+row_holds rows i m = has (slice_index_or rows i []) m
 
 -- the family that is kept so
 abbrev pub sets_of : Stored → Sets
@@ -46,6 +47,19 @@ sets_of s = record {
   top = slice_index s.tops;
 }
 
+-- numbers below a bound
+abbrev pub AreBelow : List ℕ → ℕ → Type 0
+AreBelow numbers bound = (i : ℕ) → i < length numbers → slice_index numbers i < bound
+
+-- members below n, ascending
+pub record IsRow (n : ℕ) (row : List ℕ) : Type 0 where
+  pub rising : IsStrictlyIncreasing row
+  pub below : AreBelow row n
+
+-- the members of each set, ascending
+abbrev pub AreRows : ℕ → List (List ℕ) → Type 0
+AreRows n rows = (i : ℕ) → IsRow n (slice_index_or rows i [])
+
 -- what the lists of every family keep
 pub record IsKept (s : Stored) : Type 0 where
   pub live_length : length s.live ≡ 2 * s.size
@@ -58,6 +72,7 @@ pub record IsKept (s : Stored) : Type 0 where
   pub joins_length : length s.joins ≡ 2 * s.size
   pub tops_length : length s.tops ≡ s.size
   pub row_dead : (i : ℕ) → slice_index_or s.live i false ≡ false → slice_index_or s.rows i [] ≡ []
+  pub rows_are : AreRows s.size s.rows
   pub family : IsFamily (sets_of s)
 
 -- so many numbers from the first on are places of the list, all different, and the last one leads to the first
@@ -69,23 +84,15 @@ pub record IsCircle (ring : List ℕ) (first count : ℕ) : Type 0 where
       slice_index ring (slice_index (circle_of ring first count) i)
       ≡ slice_index (circle_of ring first count) ((i + 1) % count)
 
--- numbers below a bound
-abbrev pub AreBelow : List ℕ → ℕ → Type 0
-AreBelow numbers bound = (i : ℕ) → i < length numbers → slice_index numbers i < bound
-
 -- numbers that stand once
 abbrev pub AreOnce : List ℕ → Type 0
 AreOnce numbers = (i j : ℕ) → i < j → j < length numbers →
     slice_index numbers i ≢ slice_index numbers j
 
 -- no two of these sets have a common member below n
-abbrev pub AreApart : ℕ → List (List Bool) → List ℕ → Type 0
+abbrev pub AreApart : ℕ → List (List ℕ) → List ℕ → Type 0
 AreApart n rows sets = (c d m : ℕ) → m < n → has sets c ≡ true → has sets d ≡ true →
     row_holds rows c m ≡ true → row_holds rows d m ≡ true → c ≡ d
-
--- the sets with the numbers below n hold themselves alone, of the members below n
-abbrev pub HoldThemselves : ℕ → List (List Bool) → Type 0
-HoldThemselves n rows = (i m : ℕ) → i < n → m < n → row_holds rows i m ≡ (i == m)
 
 -- q is the least member of the set x and more than a member of the set y
 pub record IsNameOf (n : ℕ) (holds : ℕ → ℕ → Bool) (q x y : ℕ) : Type 0 where

@@ -1,7 +1,8 @@
 //! A family and its calls.
 
-ghost use Rattle.std.specs.Prelude.{◌≡◌, ◌≢◌, ◌↔◌, ℕ, ◌+◌, ◌<◌, ◌≤◌, ◌^◌, OnErr, true, None, pos, ◌+ℤ◌, ◌≤ℤ◌, IfOk};
-ghost use Rattle.dpl_laminar.specs.Families.{IsFamily, AreReached, load_of, members_of};
+ghost use Rattle.std.specs.Prelude.{◌≡◌, ◌≢◌, ◌↔◌, ℕ, ◌+◌, ◌*◌, ◌<◌, ◌≤◌, ◌^◌, All, OnErr, true, None, pos, ◌+ℤ◌, ◌≤ℤ◌, IfOk};
+ghost use Rattle.dpl_laminar.specs.declared.TheConstants.{MOST_MEMBERS};
+ghost use Rattle.dpl_laminar.specs.Families.{IsFamily, AreReached, has, members_of};
 ghost use Rattle.dpl_laminar.specs.Changes.{IsSingles, AreJoined, IsShrunk, IsExpanded, IsNext};
 ghost use Rattle.dpl_laminar.specs.Storing.{sets_of};
 
@@ -66,7 +67,7 @@ impl Model for Family {
 impl Family {
     /// Each of the members below n alone, with value 0.
     pub fn new(alloc: Global, n: u32) -> Result<Family, AllocError>
-        requires { n ≤ 2048 }
+        requires { n ≤ MOST_MEMBERS }
         ensures singles { IfOk result (λ f. IsSingles n (sets_of f)) }
         ensures family { IfOk result (λ f. IsFamily (sets_of f)) }
     {
@@ -111,7 +112,7 @@ impl Family {
         ensures steps { steps.new ≡ steps.old + 1 }
     {
         steps.tick(); // A refused call counts too.
-        let members = Members::union(alloc, &self.rows, children, self.size)?;
+        let members = Members::union(alloc, &self.rows, children)?;
         let name = name_of(
             &self.rows,
             self.size,
@@ -119,7 +120,7 @@ impl Family {
             children[1] as usize,
         );
         let set = self.size + name;
-        releasing::lift(&mut self.tops, &members, set as u32);
+        releasing::lift(&mut self.tops, members.as_slice(), set as u32);
         releasing::adopt(&mut self.parents, children, set as u32);
         releasing::join(&mut self.joins, children, joins);
         rings::tie(&mut self.ring, children);
@@ -202,7 +203,7 @@ impl Family {
         requires { (sets_of self.now).live set ≡ true }
         ensures { result ≡ (sets_of self.now).holds set member }
     {
-        self.rows[set as usize].holds(member as usize)
+        self.rows[set as usize].holds(member)
     }
 
     /// The value of a live set.
@@ -225,20 +226,14 @@ impl Family {
         (self.ring.next(child), from, to)
     }
 
-    /// The members of a live set, ascending.
-    pub fn members(&self, alloc: Global, set: u32) -> Result<Vec<u32>, AllocError>
-        requires { (sets_of self.now).live set ≡ true }
-        ensures { IfOk result (λ list. list.items ≡ members_of (sets_of self.now) set) }
+    /// The members of a set, ascending: none at a number without a set.
+    pub fn members(&self, set: u32) -> &[u32]
+        requires { set < 2 * (sets_of self.now).size }
+        ensures members { result.now ≡ members_of (sets_of self.now) set }
+        ensures held { (m : ℕ) → has result.now m ≡ (sets_of self.now).holds set m }
+        ensures below { All (λ m. m < (sets_of self.now).size) result.now }
+        ensures family { IsFamily (sets_of self.now) }
     {
-        self.rows[set as usize].list(alloc, self.size)
-    }
-
-    /// The load of two members: the sum of the values of the sets that hold exactly one of them.
-    pub fn load(&self, s: u32, t: u32) -> u64
-        requires first { s < (sets_of self.now).size }
-        requires second { t < (sets_of self.now).size }
-        ensures { result ≡ load_of (sets_of self.now) s t }
-    {
-        values::load_between(&self.values, &self.rows, s as usize, t as usize)
+        self.rows[set as usize].as_slice()
     }
 }

@@ -22,3 +22,6 @@ pub use family::Family;
 pub use law::values_bound_pairings;
 pub use std::alloc::AllocError as NoMemory;
 pub use steps::Steps;
+
+/// The most members of a family.
+pub const MOST_MEMBERS: u32 = 1_048_576;

@@ -2,7 +2,7 @@
 
 ghost use Rattle.std.specs.Prelude.{◌≡◌, ℕ, ◌<◌, if◌then◌else◌, true, false, None, Some, length, slice_index, slice_index_or};
 ghost use Rattle.dpl_laminar.specs.Families.{has};
-ghost use Rattle.dpl_laminar.specs.Storing.{circle_of, row_holds, AreBelow, AreOnce, AreApart, HoldThemselves};
+ghost use Rattle.dpl_laminar.specs.Storing.{circle_of, row_holds, AreBelow, AreOnce, AreApart, AreRows};
 
 use super::members::Members;
 use dpl_ring::Ring;
@@ -35,30 +35,24 @@ pub fn join(all: &mut [(u32, u32)], children: &[u32], joins: &[(u32, u32)])
 }
 
 /// Makes a set the top of its members.
-pub fn lift(tops: &mut [u32], row: &Members, set: u32)
-    ensures { (m : ℕ) → m < length tops.old → slice_index tops.new m ≡
-        (if slice_index_or row.now m false then set else slice_index tops.old m) }
+pub fn lift(tops: &mut [u32], members: &[u32], set: u32)
+    requires { AreBelow members.now (length tops.old) }
+    ensures { (m : ℕ) → slice_index tops.new m ≡
+        (if has members.now m then set else slice_index tops.old m) }
 {
-    let held = row.as_slice();
-    for m in 0..tops.len().min(held.len()) {
-        let top = tops[m]; // Read in any case, so that several are done at a time.
-        tops[m] = if held[m] { set } else { top };
+    for member in members {
+        tops[*member as usize] = set;
     }
 }
 
 /// Makes the set with this number the top of its members.
 fn lift_set(tops: &mut [u32], rows: &[Members], set: u32)
     requires set { set < length rows.now }
-    requires singles { HoldThemselves (length tops.old) rows.now }
-    ensures { (m : ℕ) → m < length tops.old → slice_index tops.new m ≡
+    requires rows { AreRows (length tops.old) rows.now }
+    ensures { (m : ℕ) → slice_index tops.new m ≡
         (if row_holds rows.now set m then set else slice_index tops.old m) }
 {
-    let number = set as usize;
-    if number < tops.len() {
-        tops[number] = set;
-    } else {
-        lift(tops, &rows[number], set);
-    }
+    lift(tops, rows[set as usize].as_slice(), set);
 }
 
 /// Makes each child of a ring the top of its members.
@@ -67,7 +61,7 @@ pub fn lift_all(tops: &mut [u32], rows: &[Members], ring: &Ring, first: u32, cou
     requires below { (i : ℕ) → i < count →
         slice_index (circle_of ring.now first count) i < length rows.now }
     requires apart { AreApart (length tops.old) rows.now (circle_of ring.now first count) }
-    requires singles { HoldThemselves (length tops.old) rows.now }
+    requires rows { AreRows (length tops.old) rows.now }
     ensures inside { (c m : ℕ) → m < length tops.old →
         has (circle_of ring.now first count) c ≡ true → row_holds rows.now c m ≡ true →
         slice_index tops.new m ≡ c }

@@ -7,9 +7,9 @@ use Rattle.std.proofs.lemmas.List.Elements.{All-contains}
 use Rattle.dpl_dual.specs.declared.crosses.Cross.{Cross}
 use Rattle.dpl_dual.specs.declared.crosses.Dual.{Dual}
 use Rattle.dpl_dual.specs.Chains.{Leads, IsAt, beyond, length_of}
-use Rattle.dpl_dual.specs.Distances.{IsDistanceUpTo}
 use Rattle.dpl_dual.specs.Duals.{CameFromDual}
-use Rattle.dpl_dual.proofs.WorkLemmas.{dual_ways}
+use Rattle.dpl_dual.proofs.ChainLemmas.{crosses_long}
+use Rattle.dpl_pack.specs.Stacks.{IsDistanceUpTo}
 
 -- a chain that is shorter than a limit
 record IsShorter (ways : List Cross) (limit f h : ℕ) : Type 0 where
@@ -102,4 +102,4 @@ shortest_up_to ways some (suc limit) f h =
     ]
 
 pub distance_up_to : (d : Dual) → CameFromDual d → (limit f h : ℕ) → (x : ℕ) × IsDistanceUpTo d.crosses limit f h x
-distance_up_to d came limit f h = shortest_up_to d.crosses (λ k e l. omega (arith, (dual_ways d came k e l).2)) limit f h
+distance_up_to d came limit f h = shortest_up_to d.crosses (crosses_long d came) limit f h

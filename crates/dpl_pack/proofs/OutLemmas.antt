@@ -11,7 +11,7 @@ use Rattle.dpl_pack.specs.Points.{on, depth_in, apart, total_at}
 use Rattle.dpl_pack.specs.Climbs.{weight_in, walked}
 use Rattle.dpl_pack.proofs.NestLemmas.{inner_within, inner_total}
 use Rattle.dpl_pack.proofs.ClimbLemmas.{IsClimbed, climb_is, inner_by, total_by, single_by, parent_by, top_by, few_steps}
-use Rattle.dpl_pack.proofs.SourceLemmas.{totals_beyond}
+use Rattle.dpl_pack.proofs.BeyondLemmas.{totals_beyond}
 use Rattle.dpl_pack.proofs.FoldLemmas.{depth_most_in}
 use Rattle.dpl_pack.proofs.PointLemmas.{gap_back}
 

@@ -223,10 +223,6 @@ held_depths f point faces k ends spots value near e s members home hk v is =
 
 -- ---- one more
 
--- a face at the value of a set or beyond is not near it
-pub near_out : (value : ℕ) (e s : ℕ × ℕ) → e.1 + value ≤ s.1 → near_one value e s ≡ []
-near_out value e s l = cond-false (nat_lt s.1 (e.1 + value)) ((s.0, s.1 - e.1) ∷ []) [] (le-ltb s.1 (e.1 + value) l)
-
 -- a list of lists with what comes of one more
 pub more_of : {X Y : Type 0} (g : X → List Y) (xs : List X) (i : ℕ) (d : X) (first old new : List Y) → i < length xs
     → old ≡ first ++ flat_map g (take i xs) → new ≡ old ++ g (get_or xs i d) → new ≡ first ++ flat_map g (take (i + 1) xs)

@@ -5,7 +5,7 @@ use Rattle.std.specs.Prelude.{nat_le, nat_lt, Contains, slice_index}
 use Rattle.std.proofs.lemmas.Bool.{cases_eq, cases_lt, cases_Bool, cond-true, cond-false, lt-ltb, ltb-true}
 use Rattle.std.proofs.lemmas.Bool.{le-leb, leb-true, true≢false, false_from_ne_true}
 use Rattle.std.proofs.lemmas.List.Elements.{Contains-get_or}
-use Rattle.dpl_laminar.specs.Families.{Sets, IsFamily, has}
+use Rattle.dpl_laminar.specs.Families.{Sets, IsFamily, has, total_of}
 use Rattle.dpl_laminar.proofs.Sums.{sum_same, sum_zero}
 use Rattle.dpl_dual.specs.declared.crosses.Cross.{Cross}
 use Rattle.dpl_dual.specs.declared.crosses.Dual.{Dual}
@@ -324,5 +324,5 @@ flood_of d terminals f points faces p =
 pub within_flood : (d : Dual) (terminals : List ℕ) (f : Sets) → CameFromDual d → AreTerminals d terminals → IsFamily f
     → f.size ≡ length terminals → AreWithin d terminals f → (point : ℕ → Point) × IsFlood d terminals f point
 within_flood d terminals f came terms family size within =
-    flood_of d terminals f (points_of d came terminals 4611686018427387904) (part_faces d (slice_index d.part (slice_index terminals 0)))
-    (part_of d terminals f 4611686018427387904 refl came terms family size within)
+    flood_of d terminals f (points_of d came terminals (total_of f)) (part_faces d (slice_index d.part (slice_index terminals 0)))
+    (part_of d terminals f (total_of f) refl came terms family size within)

@@ -7,9 +7,8 @@ use Rattle.dpl_dual.specs.declared.crosses.Dual.{Dual}
 use Rattle.dpl_dual.specs.Chains.{Leads, length_of}
 use Rattle.dpl_dual.specs.Duals.{CameFromDual}
 use Rattle.dpl_pack.specs.Moats.{AreTerminals, AreWithin}
-use Rattle.dpl_pack.specs.Points.{Point, water, on, apart}
+use Rattle.dpl_pack.specs.Points.{Point, on, apart}
 use Rattle.dpl_pack.specs.Floods.{IsFlood, AreTight}
-use Rattle.dpl_pack.specs.Firsts.{StandsFirst}
 
 -- The load of two members is how far their seats are apart, and what is apart obeys the triangle rule.
 abbrev pub LoadsAreApart : Type 0
@@ -26,18 +25,6 @@ abbrev pub LoadsMakeFloods : Type 0
 LoadsMakeFloods = (d : Dual) (terminals : List ℕ) (f : Sets) → CameFromDual d →
     AreTerminals d terminals → IsFamily f → f.size ≡ length terminals →
     AreWithin d terminals f → (point : ℕ → Point) × IsFlood d terminals f point
-
--- Then the points that one search from all seats gives are one: each face is on the way out of a member after whose chain
--- most of the way to open water is left.
-abbrev pub FirstsMakeFloods : Type 0
-FirstsMakeFloods = (d : Dual) (terminals : List ℕ) (f : Sets) (point : ℕ → Point) → CameFromDual d →
-    AreTerminals d terminals → IsFamily f → f.size ≡ length terminals →
-    AreWithin d terminals f →
-    ((g : ℕ) → g < d.faces → slice_index d.part g ≡ slice_index d.part (slice_index terminals 0) →
-    StandsFirst d terminals f g (point g)) →
-    ((g : ℕ) → point g ≢ water → (g < d.faces) ×
-    (slice_index d.part g ≡ slice_index d.part (slice_index terminals 0))) →
-    IsFlood d terminals f point
 
 -- Pairs over tight chains, where each set that has a value is left by just one pair, are as long as the values together.
 abbrev pub TightPairsAddUp : Type 0

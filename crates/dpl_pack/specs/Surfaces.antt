@@ -11,7 +11,7 @@ pub record IsSurface (s : Surface) : Type 0 where
   pub ends : length s.ends.now ≡ length s.values.now
   pub small : (i : ℕ) → slice_index s.values.now i ≤ 2 ^ 50
   pub members : (i : ℕ) → All (λ e. e.0 < length s.spots.now) (ends_at s.ends.now i)
-  pub inner : (i : ℕ) → All (λ e. e.1 ≤ 2 ^ 62) (ends_at s.ends.now i)
+  pub inner : (i : ℕ) → All (λ e. e.1 ≤ 2 ^ 72) (ends_at s.ends.now i)
 
 -- what members hold, face by face and member by member, and all of it among some faces
 pub record IsAfloat (f : Sets) (point : ℕ → Point) (faces : List ℕ)

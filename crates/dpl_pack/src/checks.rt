@@ -32,8 +32,15 @@ fn is_holdable(dual: &Dual, start: u32, n: u32, held: &Held) -> bool
     part[held.face as usize] == part[start as usize]
 }
 
+/// The point of a face that is held.
+fn point_of(held: &Held) -> (u32, u128)
+    ensures { result ≡ (held.now.member, held.now.far) }
+{
+    (held.member, held.far as u128)
+}
+
 /// Nothing is noted of so many faces.
-fn blank_notes(alloc: Global, faces: u32) -> Result<Vec<Option<(u32, u64)>>, AllocError>
+fn blank_notes(alloc: Global, faces: u32) -> Result<Vec<Option<(u32, u128)>>, AllocError>
     ensures { IfOk result (λ v. v.items ≡ replicate faces None) }
 {
     let mut notes = Vec::new(alloc);
@@ -49,7 +56,7 @@ fn note_all(
     start: u32,
     n: u32,
     held: &[Held],
-    notes: &mut [Option<(u32, u64)>],
+    notes: &mut [Option<(u32, u128)>],
 ) -> bool
     requires parts { length dual.now.part ≡ dual.now.faces }
     requires start { start < dual.now.faces }
@@ -64,13 +71,13 @@ fn note_all(
         if notes[h.face as usize].is_some() {
             return false;
         }
-        notes[h.face as usize] = Some((h.member, h.far));
+        notes[h.face as usize] = Some(point_of(&h));
     }
     true
 }
 
 /// The point of a face, where open water is at the shore.
-fn point_at(notes: &[Option<(u32, u64)>], face: u32, shore: (u32, u64)) -> (u32, u64)
+fn point_at(notes: &[Option<(u32, u128)>], face: u32, shore: (u32, u128)) -> (u32, u128)
     requires { face < length notes.now }
     ensures some { (s : ℕ × ℕ) → note_at notes.now face ≡ Some s → result ≡ s }
     ensures none { note_at notes.now face ≡ None → result ≡ shore }
@@ -85,8 +92,8 @@ fn point_at(notes: &[Option<(u32, u64)>], face: u32, shore: (u32, u64)) -> (u32,
 fn are_short(
     tree: &Tree<'_>,
     ways: &[Cross],
-    notes: &[Option<(u32, u64)>],
-    shore: (u32, u64),
+    notes: &[Option<(u32, u128)>],
+    shore: (u32, u128),
 ) -> bool
     requires totals { AreTotals (sets_of tree.now.family.now) tree.now.totals.now }
     requires family { IsFamily (sets_of tree.now.family.now) }
@@ -98,7 +105,7 @@ fn are_short(
     for k in 0..ways.len() {
         let first = point_at(notes, ways[k].f, shore);
         let second = point_at(notes, ways[k].g, shore);
-        if apart(tree, first, second) > ways[k].length {
+        if apart(tree, first, second) > ways[k].length as u128 {
             return false;
         }
     }
@@ -109,8 +116,8 @@ fn are_short(
 fn are_seated(
     tree: &Tree<'_>,
     terminals: &[u32],
-    notes: &[Option<(u32, u64)>],
-    shore: (u32, u64),
+    notes: &[Option<(u32, u128)>],
+    shore: (u32, u128),
 ) -> bool
     requires totals { AreTotals (sets_of tree.now.family.now) tree.now.totals.now }
     requires family { IsFamily (sets_of tree.now.family.now) }

@@ -14,20 +14,20 @@ use std::alloc::{AllocError, Global};
 #[derive(Clone, Copy)]
 pub struct Tree<'a> {
     pub family: &'a Family,
-    pub totals: &'a [u64],
+    pub totals: &'a [u128],
 }
 
 /// How far the seat of a member is from open water.
-fn total(family: &Family, n: u32, member: u32) -> u64
+fn total(family: &Family, n: u32, member: u32) -> u128
     requires size { n ≡ (sets_of family.now).size }
     requires member { member < n }
     ensures { result ≡ total_at (sets_of family.now) member }
 {
     let _top = family.tops(member);
     let mut set = member;
-    let mut inside = 0u64;
+    let mut inside = 0u128;
     for _step in 0..n {
-        let value = family.value(set);
+        let value = family.value(set) as u128;
         inside += value;
         match family.parent(set) {
             Some(parent) => set = parent,
@@ -38,7 +38,7 @@ fn total(family: &Family, n: u32, member: u32) -> u64
 }
 
 /// The same for all members.
-pub fn all_totals(alloc: Global, family: &Family, n: u32) -> Result<Vec<u64>, AllocError>
+pub fn all_totals(alloc: Global, family: &Family, n: u32) -> Result<Vec<u128>, AllocError>
     requires size { n ≡ (sets_of family.now).size }
     ensures { IfOk result (λ v. AreTotals (sets_of family.now) v.items) }
 {
@@ -54,11 +54,11 @@ pub fn all_totals(alloc: Global, family: &Family, n: u32) -> Result<Vec<u64>, Al
 fn weigh(
     tree: &Tree<'_>,
     set: u32,
-    inside: u64,
-    first: (u32, u64),
-    second: (u32, u64),
+    inside: u128,
+    first: (u32, u128),
+    second: (u32, u128),
     skips: bool,
-) -> u64
+) -> u128
     requires family { IsFamily (sets_of tree.now.family.now) }
     requires totals { AreTotals (sets_of tree.now.family.now) tree.now.totals.now }
     requires first { first.0 < (sets_of tree.now.family.now).size }
@@ -67,10 +67,10 @@ fn weigh(
     requires set { set < (sets_of tree.now.family.now).size + (sets_of tree.now.family.now).size }
     requires held { (sets_of tree.now.family.now).holds set first.0 ≡ true }
     requires inside { inside ≡ inner_of (sets_of tree.now.family.now) set first.0 }
-    requires small { inside ≤ 2 ^ 62 }
+    requires small { inside ≤ 2 ^ 72 }
     ensures { result ≡ weight_in (sets_of tree.now.family.now) first second skips set }
 {
-    let value = tree.family.value(set);
+    let value = tree.family.value(set) as u128;
     let depth = value.min(first.1.saturating_sub(inside));
     if !tree.family.holds(set, second.0) {
         return value - depth;
@@ -88,21 +88,21 @@ fn weigh(
 
 /// What two points are apart in the sets that hold the member of the first, but for those that hold the
 /// other one as well, where these are left out.
-fn walk(tree: &Tree<'_>, first: (u32, u64), second: (u32, u64), skips: bool) -> u64
+fn walk(tree: &Tree<'_>, first: (u32, u128), second: (u32, u128), skips: bool) -> u128
     requires totals { AreTotals (sets_of tree.now.family.now) tree.now.totals.now }
     requires first { first.0 < (sets_of tree.now.family.now).size }
     requires second { second.0 < (sets_of tree.now.family.now).size }
     ensures sum { result ≡ walked (sets_of tree.now.family.now) first second skips }
-    ensures small { result ≤ 2 ^ 62 }
+    ensures small { result ≤ 2 ^ 72 }
 {
     let _top = tree.family.tops(first.0);
     let n = tree.totals.len();
     let mut set = first.0;
-    let mut inside = 0u64;
-    let mut sum = 0u64;
+    let mut inside = 0u128;
+    let mut sum = 0u128;
     for _step in 0..n {
         sum += weigh(tree, set, inside, first, second, skips);
-        let value = tree.family.value(set);
+        let value = tree.family.value(set) as u128;
         match tree.family.parent(set) {
             Some(parent) => set = parent,
             None => return sum,
@@ -113,7 +113,7 @@ fn walk(tree: &Tree<'_>, first: (u32, u64), second: (u32, u64), skips: bool) -> 
 }
 
 /// How far two points are apart.
-pub fn apart(tree: &Tree<'_>, first: (u32, u64), second: (u32, u64)) -> u64
+pub fn apart(tree: &Tree<'_>, first: (u32, u128), second: (u32, u128)) -> u128
     requires totals { AreTotals (sets_of tree.now.family.now) tree.now.totals.now }
     requires first { first.0 < (sets_of tree.now.family.now).size }
     requires second { second.0 < (sets_of tree.now.family.now).size }

@@ -1,6 +1,6 @@
 //! Why a flood bounds every pairing from below.
 
-ghost use Rattle.dpl_pack.specs.FloodLaws.{LoadsAreApart, FloodsBoundLoads, LoadsMakeFloods, FirstsMakeFloods, TightPairsAddUp, TightFloodsAreLeast};
+ghost use Rattle.dpl_pack.specs.FloodLaws.{LoadsAreApart, FloodsBoundLoads, LoadsMakeFloods, TightPairsAddUp, TightFloodsAreLeast};
 ghost use Rattle.dpl_pack.specs.TideLaws.{TurnsMovePoints, TurnsKeepWays, TurnsKeepFloods, ShoresAreWater, NamesKeepFloods, FoldsKeepFloods, GivingWayKeepsFloods};
 
 /// A family is a tree: from the seat of each member a way leads out to open water, through the sets
@@ -11,7 +11,6 @@ pub fn floods_bound_pairings()
     ensures apart { LoadsAreApart }
     ensures within { FloodsBoundLoads }
     ensures floods { LoadsMakeFloods }
-    ensures firsts { FirstsMakeFloods }
     ensures equal { TightPairsAddUp }
     ensures least { TightFloodsAreLeast }
 {}

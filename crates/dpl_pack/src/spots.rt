@@ -44,31 +44,32 @@ pub fn spots_of(alloc: Global, held: &[Held], n: u32) -> Result<Grouped<(u32, u6
 /// is the member with the values of the sets inside that hold it.
 fn add_one(
     spot: (u32, u64),
-    end: (u32, u64),
+    end: (u32, u128),
     value: u64,
     near: &mut Vec<(u32, u64)>,
 ) -> Result<(), AllocError>
-    requires inner { end.1 ≤ 2 ^ 62 }
+    requires inner { end.1 ≤ 2 ^ 72 }
     requires small { value ≤ 2 ^ 50 }
     ensures { OnOk result (near.new.items ≡ near.old.items ++ near_one value end spot) }
 {
     let (face, far) = spot;
     let inner = end.1;
-    if far >= inner + value {
+    let far = far as u128;
+    if far >= inner + value as u128 {
         return Ok(());
     }
-    near.push((face, far.saturating_sub(inner)))?;
+    near.push((face, far.saturating_sub(inner) as u64))?;
     Ok(())
 }
 
 /// Adds those of all that a member holds.
 fn add_row(
     row: &[(u32, u64)],
-    end: (u32, u64),
+    end: (u32, u128),
     value: u64,
     near: &mut Vec<(u32, u64)>,
 ) -> Result<(), AllocError>
-    requires inner { end.1 ≤ 2 ^ 62 }
+    requires inner { end.1 ≤ 2 ^ 72 }
     requires small { value ≤ 2 ^ 50 }
     ensures { OnOk result (near.new.items ≡ near.old.items ++ flat_map (near_one value end) row.now) }
 {
@@ -82,12 +83,12 @@ fn add_row(
 /// ends are the members of the set, each with the values of the sets inside that hold it.
 pub fn near_held(
     alloc: Global,
-    ends: &[(u32, u64)],
+    ends: &[(u32, u128)],
     spots: &Grouped<(u32, u64)>,
     value: u64,
 ) -> Result<Vec<(u32, u64)>, AllocError>
     requires members { All (λ e. e.0 < length spots.now) ends.now }
-    requires inner { All (λ e. e.1 ≤ 2 ^ 62) ends.now }
+    requires inner { All (λ e. e.1 ≤ 2 ^ 72) ends.now }
     requires small { value ≤ 2 ^ 50 }
     ensures { IfOk result (λ v. v.items ≡ near_held value ends.now spots.now) }
 {

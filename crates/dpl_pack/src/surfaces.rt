@@ -18,7 +18,7 @@ use std::alloc::{AllocError, Global};
 /// that hold it, the set's value, and for each member the faces that it holds, each with how far it is.
 #[derive(Clone, Copy)]
 pub struct Surface<'a> {
-    pub ends: &'a Grouped<(u32, u64)>,
+    pub ends: &'a Grouped<(u32, u128)>,
     pub values: &'a [u64],
     pub spots: &'a Grouped<(u32, u64)>,
 }

@@ -1,5 +1,5 @@
 -- An inner set and the ring of its children, and what the tree is after it gave way to them.
-use Rattle.std.proofs.Common.{arith, ◌≡◌, ◌≢◌, ℕ, ◌+◌, ◌-◌, ◌*◌, ◌/◌, ◌%◌, ◌^◌, ◌<◌, ◌≤◌, refl, sym, ap, ◌∙◌, subst, true, Option, Some, List, length, get_or}
+use Rattle.std.proofs.Common.{arith, ◌≡◌, ◌≢◌, ℕ, ◌+◌, ◌-◌, ◌*◌, ◌/◌, ◌%◌, ◌<◌, ◌≤◌, refl, sym, ap, ◌∙◌, subst, true, Option, Some, List, length, get_or}
 use Rattle.std.proofs.Math.Nat.{mod-eq_of_lt}
 use Rattle.dpl_laminar.specs.Families.{Sets, IsFamily, has}
 use Rattle.dpl_laminar.specs.Changes.{IsExpanded}
@@ -8,7 +8,7 @@ use Rattle.dpl_tree.specs.declared.tree.Tree.{Tree}
 use Rattle.dpl_tree.specs.steps.Forests.{Forest, Opens, inner}
 use Rattle.dpl_tree.specs.Mates.{IsExit}
 use Rattle.dpl_tree.specs.Metrics.{AreSymmetric}
-use Rattle.dpl_tree.specs.Stages.{IsStage, Advances, AreRanked, KeepsTrees}
+use Rattle.dpl_tree.specs.Stages.{most_rank, IsStage, Advances, AreRanked, KeepsTrees}
 use Rattle.dpl_tree.specs.Views.{mate_in, forest_of, place_in, IsSized}
 use Rattle.dpl_tree.specs.steps.Growth.{HasGivenWay}
 use Rattle.dpl_tree.specs.steps.Opened.{IsAround, IsOpening, around, Lists, lists_of, forest_in, walked_times, paired_times}
@@ -151,7 +151,7 @@ opening_first {n} {f} {set = set} {first = first} {sets = sets} st o is seen =
 -- an inner set gave way to its ring, by the lists as each step read them: js by the pairs, ss by the entry, ws and ks by the walk
 pub gave_way : {n : ℕ} {f g : Sets} {dist : ℕ → ℕ → ℕ} {t0 t1 t2 : Tree} {set first p : ℕ}
     → {sets ss ws : List ℕ} {joins js ks : List (ℕ × ℕ)} (mates new : List (Option ℕ)) → AreSymmetric n dist
-    → length mates ≡ n → IsStage n f dist (forest_of t0 mates) → AreRanked (forest_of t0 mates) (2 ^ 60)
+    → length mates ≡ n → IsStage n f dist (forest_of t0 mates) → AreRanked (forest_of t0 mates) most_rank
     → IsOpening n f dist (forest_of t0 mates) set (around sets joins p) → IsExpanded f set g → IsFamily g
     → IsSized n t0 → IsSized n t1 → IsSized n t2 → js ≡ joins → new ≡ paired_times mates js p (length js / 2)
     → ss ≡ sets → first ≡ get_or ss 0 0
@@ -177,11 +177,11 @@ gave_way {n} {f} {g} {dist} {t0} {t1} {t2} {set} {first} {p} {sets} {ss} {ws} {j
     ap (λ (z : List (Option ℕ)). forest_in (walked_times l sets joins (p / 2)) (mate_in z)) (sym en) ∙
     ap (λ (z : Lists). forest_in z (mate_in new)) (sym el) in
     record {
-      advances = subst (λ (z : Forest). Advances n dist f x g z) back (done (2 ^ 60) small).0;
+      advances = subst (λ (z : Forest). Advances n dist f x g z) back (done most_rank small).0;
       ranks = λ bound r i. omega (arith, (done bound r).1 i, ap (λ (z : Lists). get_or z.ranks i 0) el, (around_few st o).1, o.place);
       sums = totals_alike n f g (expanded_alike n f g set st.rest.size o.empty ex);
       widens = given_widens n f g dist t0 t1 t2 mates new set sets joins p st o ex op el;
-      trees = subst (λ (z : Forest). KeepsTrees x z) back (done (2 ^ 60) small).2;
+      trees = subst (λ (z : Forest). KeepsTrees x z) back (done most_rank small).2;
     }
 
 -- and of all others none but its children stand otherwise

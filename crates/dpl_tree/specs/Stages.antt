@@ -1,6 +1,6 @@
 -- What holds between two stages, and between two turns of a stage: the family overloads no pair,
 -- and pairs, joins and the edges of the tree are tight.
-use Rattle.std.specs.Prelude.{◌≡◌, ◌≢◌, ℕ, ◌+◌, ◌*◌, ◌%◌, ◌<◌, ◌≤◌, ◌⊎◌, Bool, true, false}
+use Rattle.std.specs.Prelude.{◌≡◌, ◌≢◌, ℕ, ◌+◌, ◌*◌, ◌%◌, ◌<◌, ◌≤◌, ◌^◌, ◌⊎◌, Bool, true, false}
 use Rattle.std.specs.Prelude.{Option, Some}
 use Rattle.dpl_laminar.specs.Families.{Sets, IsFamily, IsLaminar}
 use Rattle.dpl_laminar.specs.Loads.{sum_below}
@@ -56,6 +56,10 @@ IsCovered n f mate k = (m : ℕ) × (t : ℕ) × IsExit n f mate (f.top k) m t
 -- the top of a member has a pair, or is outer, as a root is
 abbrev pub IsReady : ℕ → Sets → Forest → ℕ → Type 0
 IsReady n f x k = IsCovered n f x.mate k ⊎ (x.place (f.top k) ≡ outer)
+
+-- the most that ranks rise to: with all events that trees of the most members may have, by four for each member at each
+abbrev pub most_rank : ℕ
+most_rank = 2 ^ 63 + 2 ^ 44
 
 -- no rank of a tree is above a bound
 abbrev pub AreRanked : Forest → ℕ → Type 0

@@ -2,11 +2,12 @@
 
 ghost use Rattle.std.specs.Prelude.{◌≡◌, ◌≢◌, ℕ, ◌+◌, ◌*◌, ◌<◌, ◌≤◌, ◌^◌, length, slice_index};
 ghost use Rattle.std.specs.Prelude.{IfOk};
+ghost use Rattle.dpl_laminar.specs.declared.TheConstants.{MOST_MEMBERS};
 ghost use Rattle.dpl_laminar.specs.Storing.{sets_of};
 ghost use Rattle.dpl_tree.specs.steps.Forests.{inner};
 ghost use Rattle.dpl_tree.specs.steps.Growth.{IsStageBy, IsNextBy, HasGivenWay};
 ghost use Rattle.dpl_tree.specs.steps.Opened.{IsOpening, around};
-ghost use Rattle.dpl_tree.specs.Stages.{AreRanked};
+ghost use Rattle.dpl_tree.specs.Stages.{most_rank, AreRanked};
 ghost use Rattle.dpl_tree.specs.Views.{forest_of, place_in, IsSized};
 
 use super::giving_way::{enter, pair_round, walk};
@@ -35,7 +36,7 @@ pub fn path_through(
     set: u32,
 ) -> Result<Path, AllocError>
     requires mates { length mates.now ≡ (sets_of family.now).size }
-    requires small { (sets_of family.now).size ≤ 2048 }
+    requires small { (sets_of family.now).size ≤ MOST_MEMBERS }
     requires sized { IsSized (sets_of family.now).size tree.now }
     requires stage { (dist : ℕ → ℕ → ℕ) ×
         IsStageBy (sets_of family.now) (forest_of tree.now mates.now) dist }
@@ -95,7 +96,7 @@ pub fn give_way<L: Ledger>(
     requires sized { IsSized (sets_of family.old).size tree.old }
     requires stage { (dist : ℕ → ℕ → ℕ) ×
         IsStageBy (sets_of family.old) (forest_of tree.old mates.old) dist }
-    requires low { AreRanked (forest_of tree.old mates.old) (2 ^ 60) }
+    requires low { AreRanked (forest_of tree.old mates.old) most_rank }
     requires above { (sets_of family.old).size ≤ set }
     requires is_inner { place_in tree.old.labels.items set ≡ inner }
     requires empty { (sets_of family.old).value set ≡ 0 }

@@ -3,6 +3,8 @@
 ghost use Rattle.std.specs.Prelude.{◌≡◌, ◌≢◌, ℕ, ◌+◌, ◌*◌, ◌/◌, ◌%◌, ◌<◌, ◌≤◌, ◌^◌, List, Option};
 ghost use Rattle.std.specs.Prelude.{nat_lt, if◌then◌else◌, length, slice_index, slice_index_or};
 ghost use Rattle.std.specs.Prelude.{slice_set, IfOk};
+ghost use Rattle.dpl_laminar.specs.declared.TheConstants.{MOST_MEMBERS};
+ghost use Rattle.dpl_tree.specs.Stages.{most_rank};
 ghost use Rattle.dpl_tree.specs.steps.Forests.{Opens};
 ghost use Rattle.dpl_tree.specs.steps.Opened.{join_at, paired_times, lists_of, walked_times};
 ghost use Rattle.dpl_tree.specs.Views.{forest_of};
@@ -12,7 +14,7 @@ use super::tree::{Label, Tree};
 
 /// Pairs the sets of a round two by two, but for the one at an even place.
 pub fn pair_round(mates: &mut [Option<u32>], joins: &[(u32, u32)], place: usize)
-    requires small { length joins.now ≤ 4096 }
+    requires small { length joins.now ≤ 2 * MOST_MEMBERS }
     requires odd { length joins.now % 2 ≡ 1 }
     requires from { (i : ℕ) → i < length joins.now → (slice_index_or joins.now i (0, 0)).0 <
         length mates.old }
@@ -28,7 +30,7 @@ pub fn pair_round(mates: &mut [Option<u32>], joins: &[(u32, u32)], place: usize)
 
 /// Which join pairs two sets.
 fn join_place(place: usize, r: usize) -> usize
-    requires { r ≤ 4096 }
+    requires { r ≤ 2 * MOST_MEMBERS }
     ensures { result ≡ join_at place r }
 {
     if 2 * r < place { 2 * r } else { 2 * r + 1 }
@@ -36,8 +38,8 @@ fn join_place(place: usize, r: usize) -> usize
 
 /// Makes room above a rank. Mostly none is asked for.
 pub fn make_room(ranks: &mut [u64], rank: u64, room: u64)
-    requires small { (i : ℕ) → slice_index ranks.old i ≤ 2 ^ 60 }
-    requires room { room ≤ 4096 }
+    requires small { (i : ℕ) → slice_index ranks.old i ≤ most_rank }
+    requires room { room ≤ 2 * MOST_MEMBERS }
     ensures { (i : ℕ) → slice_index ranks.new i ≡
         (if nat_lt rank (slice_index ranks.old i) then slice_index ranks.old i + room
         else slice_index ranks.old i) }
@@ -60,15 +62,15 @@ pub fn enter(tree: &mut Tree, set: u32, first: u32, room: u64)
     requires ranks { length tree.old.ranks.items ≡ length tree.old.labels.items }
     requires links { length tree.old.links.items ≡ length tree.old.labels.items }
     requires trees { length tree.old.trees.items ≡ length tree.old.labels.items }
-    requires small { (i : ℕ) → slice_index tree.old.ranks.items i ≤ 2 ^ 60 }
-    requires room { room ≤ 4096 }
+    requires small { (i : ℕ) → slice_index tree.old.ranks.items i ≤ most_rank }
+    requires room { room ≤ 2 * MOST_MEMBERS }
     ensures opens { (mates new : List (Option ℕ)) →
         Opens (forest_of tree.old mates) set first room (forest_of tree.new new) }
     ensures labels { length tree.new.labels.items ≡ length tree.old.labels.items }
     ensures ranks { length tree.new.ranks.items ≡ length tree.old.labels.items }
     ensures links { length tree.new.links.items ≡ length tree.old.labels.items }
     ensures trees { length tree.new.trees.items ≡ length tree.old.labels.items }
-    ensures small { (i : ℕ) → slice_index tree.new.ranks.items i ≤ 2 ^ 60 + 4096 }
+    ensures small { (i : ℕ) → slice_index tree.new.ranks.items i ≤ most_rank + 2 * MOST_MEMBERS }
 {
     let rank = tree.rank(set);
     let link = tree.link(set);
@@ -84,14 +86,14 @@ pub fn enter(tree: &mut Tree, set: u32, first: u32, room: u64)
 /// Takes the sets up to an even place into the tree.
 pub fn walk(tree: &mut Tree, sets: &[u32], joins: &[(u32, u32)], place: usize)
     requires place { place < length sets.now }
-    requires few { length sets.now ≤ 4096 }
+    requires few { length sets.now ≤ 2 * MOST_MEMBERS }
     requires joins { length joins.now ≡ length sets.now }
     requires below { (i : ℕ) → i < length sets.now → slice_index sets.now i <
         length tree.old.labels.items }
     requires ranks { length tree.old.ranks.items ≡ length tree.old.labels.items }
     requires links { length tree.old.links.items ≡ length tree.old.labels.items }
     requires trees { length tree.old.trees.items ≡ length tree.old.labels.items }
-    requires small { (i : ℕ) → slice_index tree.old.ranks.items i ≤ 2 ^ 60 + 4096 }
+    requires small { (i : ℕ) → slice_index tree.old.ranks.items i ≤ most_rank + 2 * MOST_MEMBERS }
     ensures labels { length tree.new.labels.items ≡ length tree.old.labels.items }
     ensures ranks { length tree.new.ranks.items ≡ length tree.old.labels.items }
     ensures links { length tree.new.links.items ≡ length tree.old.labels.items }

@@ -3,6 +3,7 @@
 ghost use Rattle.std.specs.Prelude.{◌≡◌, ◌≢◌, ℕ, ◌+◌, ◌*◌, ◌<◌, ◌≤◌, ◌^◌, List, Option, length};
 ghost use Rattle.std.specs.Prelude.{slice_index};
 ghost use Rattle.dpl_laminar.specs.Storing.{sets_of};
+ghost use Rattle.dpl_tree.specs.Stages.{most_rank};
 ghost use Rattle.dpl_tree.specs.steps.Forests.{Grows};
 ghost use Rattle.dpl_tree.specs.Views.{forest_of, IsSized};
 
@@ -16,7 +17,7 @@ pub fn grow(family: &Family, tree: &mut Tree, s: u32, t: u32, o: u32)
     requires o { o < (sets_of family.now).size }
     requires sized { IsSized (sets_of family.now).size tree.old }
     requires apart { (sets_of family.now).top t ≢ (sets_of family.now).top o }
-    requires small { (i : ℕ) → slice_index tree.old.ranks.items i < 2 ^ 60 }
+    requires small { (i : ℕ) → slice_index tree.old.ranks.items i ≤ most_rank }
     ensures grows { (mates : List (Option ℕ)) →
         Grows (sets_of family.now) (forest_of tree.old mates) s t o (forest_of tree.new mates) }
     ensures sized { IsSized (sets_of family.now).size tree.new }

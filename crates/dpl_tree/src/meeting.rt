@@ -3,6 +3,7 @@
 
 ghost use Rattle.std.specs.Prelude.{◌≡◌, ◌≢◌, ℕ, ◌+◌, ◌*◌, ◌<◌, ◌≤◌, ◌++◌, ◌∷◌, true, length};
 ghost use Rattle.std.specs.Prelude.{slice_index, slice_index_or, if◌then◌else◌, IfOk, reverse};
+ghost use Rattle.dpl_laminar.specs.declared.TheConstants.{MOST_MEMBERS};
 ghost use Rattle.dpl_laminar.specs.Families.{has};
 ghost use Rattle.dpl_laminar.specs.Storing.{sets_of};
 ghost use Rattle.dpl_tree.specs.steps.Forests.{outer, inner, free};
@@ -38,7 +39,7 @@ pub struct Climb {
 /// The step up from an outer set that has a pair, as each but the root has.
 pub fn step_up(family: &Family, mates: &[Option<u32>], tree: &Tree, set: u32) -> Climb
     requires mates { length mates.now ≡ (sets_of family.now).size }
-    requires small { (sets_of family.now).size ≤ 2048 }
+    requires small { (sets_of family.now).size ≤ MOST_MEMBERS }
     requires sized { IsSized (sets_of family.now).size tree.now }
     requires stage { (dist : ℕ → ℕ → ℕ) ×
         IsStageBy (sets_of family.now) (forest_of tree.now mates.now) dist }

@@ -1,6 +1,6 @@
 //! Pairs of members.
 
-ghost use Rattle.std.specs.Prelude.{◌≡◌, ℕ, ◌<◌, ◌≤◌, true, slice_index_or, slice_set, length, IfSome, MatchOption};
+ghost use Rattle.std.specs.Prelude.{◌≡◌, ℕ, ◌*◌, ◌<◌, true, slice_index_or, slice_set, length, IfSome, MatchOption};
 ghost use Rattle.dpl_laminar.specs.Storing.{sets_of};
 ghost use Rattle.dpl_tree.specs.Mates.{kept_outside, DropsInside};
 ghost use Rattle.dpl_tree.specs.steps.Joins.{is_end};
@@ -28,48 +28,22 @@ pub fn part(mates: &mut [Option<u32>], s: u32, t: u32)
     mates[t as usize] = None;
 }
 
-/// A member that has a mate, and its mate.
-fn exit_at(mates: &[Option<u32>], member: u32) -> Option<(u32, u32)>
-    requires { member < length mates.now }
-    ensures { MatchOption result (mate_in mates.now member ≡ None)
-        (λ p. (p.0 ≡ member) × (mate_in mates.now member ≡ Some p.1)) }
-{
-    match mates[member as usize] {
-        Some(mate) => Some((member, mate)),
-        None => None,
-    }
-}
-
-/// Whether a number is that of a single member which is a top.
-fn is_single(family: &Family, top: u32, members: usize) -> bool
-    requires { members ≡ (sets_of family.now).size }
-    ensures { result ≡ true → (top < (sets_of family.now).size) ×
-        ((m : ℕ) → m < (sets_of family.now).size → (sets_of family.now).top m ≡ top → m ≡ top) ×
-        ((sets_of family.now).top top ≡ top) }
-{
-    if members <= top as usize {
-        return false;
-    }
-    family.tops(top) == top
-}
-
-/// The member of a top set that has a mate, and its mate. A single member has no others beside it.
+/// The member of a top set that has a mate, and its mate. It costs the members of the set.
 pub fn exit_of(family: &Family, mates: &[Option<u32>], top: u32) -> Option<(u32, u32)>
     requires count { length mates.now ≡ (sets_of family.now).size }
-    requires small { length mates.now ≤ 2048 }
+    requires top { top < 2 * (sets_of family.now).size }
     ensures { MatchOption result
         ((m : ℕ) → m < (sets_of family.now).size → (sets_of family.now).top m ≡ top →
         mate_in mates.now m ≡ None)
         (λ p. (p.0 < (sets_of family.now).size) × ((sets_of family.now).top p.0 ≡ top) ×
         (mate_in mates.now p.0 ≡ Some p.1)) }
 {
-    if is_single(family, top, mates.len()) {
-        return exit_at(mates, top);
-    }
-    for m in 0..mates.len() {
-        if let Some(mate) = mates[m] {
-            if family.tops(m as u32) == top {
-                return Some((m as u32, mate));
+    let members = family.members(top);
+    for i in 0..members.len() {
+        let member = members[i];
+        if let Some(mate) = mates[member as usize] {
+            if family.tops(member) == top {
+                return Some((member, mate));
             }
         }
     }

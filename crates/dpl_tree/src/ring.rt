@@ -2,10 +2,11 @@
 
 ghost use Rattle.std.specs.Prelude.{◌≡◌, ◌≢◌, ℕ, ◌+◌, ◌-◌, ◌*◌, ◌<◌, ◌≤◌, None, Some, true};
 ghost use Rattle.std.specs.Prelude.{length, slice_index, IfOk};
+ghost use Rattle.dpl_laminar.specs.declared.TheConstants.{MOST_MEMBERS};
 ghost use Rattle.dpl_laminar.specs.Storing.{sets_of};
 ghost use Rattle.dpl_tree.specs.steps.Rounds.{IsRingFrom, IsTurned};
 
-use dpl_laminar::Family;
+use dpl_laminar::{Family, MOST_MEMBERS};
 use std::alloc::{AllocError, Global};
 
 /// Sets around a ring, each with the join to the next one.
@@ -18,7 +19,7 @@ pub struct Round {
 /// The child of a set that holds a member.
 pub fn child_with(family: &Family, set: u32, member: u32) -> u32
     requires member { member < (sets_of family.now).size }
-    requires small { (sets_of family.now).size ≤ 2048 }
+    requires small { (sets_of family.now).size ≤ MOST_MEMBERS }
     requires above { (sets_of family.now).size ≤ set }
     requires below { set < 2 * (sets_of family.now).size }
     requires live { (sets_of family.now).live set ≡ true }
@@ -28,11 +29,10 @@ pub fn child_with(family: &Family, set: u32, member: u32) -> u32
     ensures live { (sets_of family.now).live result ≡ true }
     ensures below { result < 2 * (sets_of family.now).size }
 {
-    let limit: usize = 4096;
     let _parent = family.parent(set);
     let _top = family.tops(member);
     let mut child = member;
-    for _ in 0..limit {
+    for _ in 0..2 * MOST_MEMBERS {
         match family.parent(child) {
             Some(parent) => {
                 if parent == set {
@@ -48,20 +48,19 @@ pub fn child_with(family: &Family, set: u32, member: u32) -> u32
 
 /// The children of a set from one of them on.
 pub fn round_from(alloc: Global, family: &Family, first: u32) -> Result<Round, AllocError>
-    requires small { (sets_of family.now).size ≤ 2048 }
+    requires small { (sets_of family.now).size ≤ MOST_MEMBERS }
     requires below { first < 2 * (sets_of family.now).size }
     requires live { (sets_of family.now).live first ≡ true }
     requires inner { (sets_of family.now).parent first ≢ None }
     ensures { IfOk result (λ r. IsRingFrom (sets_of family.now) first r.sets.items r.joins.items) }
 {
-    let limit: usize = 4096;
     let _parent = family.parent(first);
     let mut sets = Vec::new(alloc);
     let mut joins = Vec::new(alloc);
     sets.push(first)?;
     let (mut child, s, t) = family.child_after(first);
     joins.push((s, t))?;
-    for _ in 0..limit {
+    for _ in 0..2 * MOST_MEMBERS {
         if child == first {
             return Ok(Round { sets, joins });
         }

@@ -2,6 +2,7 @@
 
 ghost use Rattle.std.specs.Prelude.{◌≡◌, ◌≢◌, ℕ, ◌<◌, ◌≤◌, ◌⊎◌, length, slice_index, slice_index_or};
 ghost use Rattle.std.specs.Prelude.{All, IfOk};
+ghost use Rattle.dpl_laminar.specs.declared.TheConstants.{MOST_MEMBERS};
 ghost use Rattle.dpl_laminar.specs.Storing.{sets_of};
 ghost use Rattle.dpl_tree.specs.steps.Forests.{free};
 ghost use Rattle.dpl_tree.specs.steps.Growth.{AreRoots};
@@ -37,7 +38,7 @@ impl Tree {
         n: usize,
     ) -> Result<Tree, AllocError>
         requires size { n ≡ (sets_of family.now).size }
-        requires small { n ≤ 2048 }
+        requires small { n ≤ MOST_MEMBERS }
         requires members { All (λ m. m < (sets_of family.now).size) members.now }
         ensures { IfOk result (AreRoots (sets_of family.now) members.now) }
     {

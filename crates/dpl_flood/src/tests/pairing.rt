@@ -6,9 +6,9 @@ ghost use Rattle.dpl_flood.specs.Starts.{AreSeats};
 ghost use Rattle.dpl_flood.specs.States.{IsGround};
 
 use crate::{Lent, NoMemory, Paired, pair_faces, steps_at};
-use dpl_dual::{Cross, Dual, Rows};
+use dpl_dual::{Cross, Dual};
 use dpl_laminar::Steps;
-use dpl_list::{Grouped, Items};
+use dpl_list::Items;
 use std::alloc::Global;
 use std::marker::Brand;
 use std::sync::ledger::{Blank, Ledger};
@@ -52,17 +52,11 @@ fn faces_with_tail(alloc: Global) -> Result<Dual, NoMemory>
     let crosses = Items::new(Vec::from_slice(alloc, &ways)?);
     let odd = Items::new(Vec::from_slice(alloc, all)?);
     let part = Items::new(Vec::from_slice(alloc, same)?);
-    let by_face = Grouped::by_key(alloc, 4, &[], &[])?;
     Ok(Dual {
         faces: 4,
         crosses,
         odd,
         part,
-        rows: Rows {
-            by_face,
-            least: 2,
-            greatest: 10,
-        },
     })
 }
 

@@ -16,10 +16,13 @@ exit_of-requires-clause-count c =
     let t = c.in_ok-from.ensures.tied c.args.dual.now (record { forest = c.requires.forest; over = c.requires.meets.over; met = c.requires.meets.met }) in
     ap length c.deref.ensures.value ∙ t.forest.mates
 
-pub exit_of-requires-clause-small : goal.exit_of-requires-clause-small
-exit_of-requires-clause-small c =
+pub exit_of-requires-clause-top : goal.exit_of-requires-clause-top
+exit_of-requires-clause-top c =
     let t = c.in_ok-from.ensures.tied c.args.dual.now (record { forest = c.requires.forest; over = c.requires.meets.over; met = c.requires.meets.met }) in
-    omega (arith, ap length c.deref.ensures.value, t.forest.mates, t.forest.state.sea.family.small)
+    let low = tied_below c.args.dual.now c.args.state.now c.tie.new.state c.args.ahead
+    (record { forest = c.requires.forest; over = c.requires.meets.over; met = c.requires.meets.met }) (c.in_ok-from.from, c.in_ok-from.to) t in
+    let range = t.forest.state.sea.family.laminar.tops.top_range c.in_ok-from.to low.1 in
+    omega (arith, c.tops.ensures.value, range)
 
 pub turn-requires-clause-state : goal.turn-requires-clause-state
 turn-requires-clause-state c =

@@ -1,27 +1,16 @@
-use Rattle.std.proofs.Common.{◌∙◌, ◌+◌, ap, sym, subst, get_or, inl, inr}
-use Rattle.dpl_flood.specs.States.{AreKeyedFor, SeatsOn, sea_of}
-use Rattle.dpl_flood.proofs.TopLemmas.{for_around, for_fewer, one_seat_more}
+use Rattle.std.proofs.Common.{◌∙◌, ◌+◌, ap, sym, inl, inr, get_or}
+use Rattle.dpl_flood.specs.States.{SeatsOf, sea_of}
+use Rattle.dpl_flood.proofs.TopLemmas.{for_around, one_seat_more}
 use Rattle.dpl_flood.proofs.looks.look_seats.Goals as goal
-use Rattle.dpl_flood.proofs.looks.look_seats.Goals.{then-tops-top, else-tops-top}
 
 pub loop-i-preserved : goal.loop-i-preserved
 loop-i-preserved c =
-    let d = c.args.dual.now in
-    let s = sea_of c.args.state.now in
     let seats = c.args.state.now.seats in
+    let members = c.args.members.now in
     let i = c.loop-i.i in
-    let less = SeatsOn s seats c.args.top i in
-    let more = SeatsOn s seats c.args.top (i + 1) in
-    elim c.if-tops-top.branch [
-      | then-tops-top w ↦ subst (AreKeyedFor d s more c.args.queue.now) (sym w.queue-is)
-          (for_around d s less more (get_or c.as_slice-seats.result.now i 0) c.args.queue.now c.loop-i.queue w.look_around.new.queue c.loop-i.invariant
-          w.look_around.ensures.keys (λ g m. elim (one_seat_more s seats c.args.top i g m) [
-            | inl l ↦ inl l
-            | inr e ↦ inr (e.1 ∙ ap (λ z. get_or z i 0) (sym c.as_slice-seats.ensures))
-          ]))
-      | else-tops-top w ↦ subst (AreKeyedFor d s more c.args.queue.now) (sym w.queue-is)
-          (for_fewer d s less more c.args.queue.now c.loop-i.queue c.loop-i.invariant (λ g m. elim (one_seat_more s seats c.args.top i g m) [
-            | inl l ↦ l
-            | inr e ↦ absurd (w.if-tops-top.false (c.tops.ensures.value ∙ e.0))
-          ]))
-    ]
+    for_around c.args.dual.now (sea_of c.args.state.now) (SeatsOf seats members i) (SeatsOf seats members (i + 1))
+    (get_or c.as_slice-seats.result.now (get_or members i 0) 0) c.args.queue.now c.loop-i.queue c.look_around.new.queue
+    c.loop-i.invariant c.look_around.ensures.keys (λ g m. elim (one_seat_more seats members i g m) [
+      | inl l ↦ inl l
+      | inr e ↦ inr (e ∙ ap (λ z. get_or z (get_or members i 0) 0) (sym c.as_slice-seats.ensures))
+    ])

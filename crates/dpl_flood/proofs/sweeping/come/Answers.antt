@@ -15,3 +15,7 @@ returns-clause-swept g c =
 pub returns-clause-faces : goal.returns-clause-faces
 returns-clause-faces g c =
     c.next_later.ensures.faces ∙ faces_thawed c.args.dual.now c.args.state.now c.thaw.new.state c.thaw.ensures.rest c.thaw.ensures.same.tree
+
+pub returns-in-Some-next_now-clause-swept : goal.returns-in-Some-next_now-clause-swept
+returns-in-Some-next_now-clause-swept g c =
+    swept_thawed c.args.state.now c.thaw.new.state c.thaw.ensures.rest c.thaw.ensures.same c.in_ok-thaw.ensures.awake

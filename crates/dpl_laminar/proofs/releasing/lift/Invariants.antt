@@ -1,8 +1,6 @@
-use Rattle.std.proofs.Common.{◌≡◌, ℕ, ◌<◌, ◌≤◌, false, cond, get_or}
+use Rattle.std.proofs.Common.{◌≡◌, ℕ, cond, get_or, take}
+use Rattle.dpl_laminar.specs.Families.{has}
 use Rattle.dpl_laminar.proofs.releasing.lift.Given as goal
 
-abbrev pub invariant-loop-m : goal.invariant-loop-m
-invariant-loop-m l = record {
-  done : (k : ℕ) → k < l.m → get_or l.tops k 0 ≡ cond (get_or l.row k false) l.set (get_or l.fn.tops k 0);
-  rest : (k : ℕ) → l.m ≤ k → get_or l.tops k 0 ≡ get_or l.fn.tops k 0;
-}
+abbrev pub invariant-loop-member : goal.invariant-loop-member
+invariant-loop-member l = (m : ℕ) → get_or l.tops m 0 ≡ cond (has (take l.member-index l.members) m) l.set (get_or l.fn.tops m 0)

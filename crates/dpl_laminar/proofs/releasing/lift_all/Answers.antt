@@ -1,4 +1,5 @@
-use Rattle.std.proofs.Common.{arith, ◌≡◌, ℕ, ◌<◌, Bool, ap, sym, ◌∙◌, refl, cond, get_or, length, false, []}
+use Rattle.std.proofs.Common.{arith, ◌≡◌, ℕ, ◌<◌, Bool, ap, sym, ◌∙◌, refl, cond, get_or, length, []}
+use Rattle.dpl_laminar.specs.Families.{has}
 use Rattle.dpl_laminar.specs.Storing.{circle_of}
 use Rattle.dpl_laminar.proofs.Walks.{length_ring, ring_at, ring_next, ring_whole}
 use Rattle.dpl_laminar.proofs.Lifting.{lifted_none, lifted_more}
@@ -9,6 +10,9 @@ loop-init c = record { at = refl; lifted = lifted_none _ _ c.args.tops.now; most
 
 pub lift_set-requires-clause-set : goal.lift_set-requires-clause-set
 lift_set-requires-clause-set c = omega (arith, ring_at _ _ _ _ c.loop.child c.loop-test.true c.loop.invariant.at, c.requires.below c.loop.counter c.loop-test.true)
+
+pub lift_set-requires-clause-rows : goal.lift_set-requires-clause-rows
+lift_set-requires-clause-rows c = rw c.loop.auto.tops c.requires.rows
 
 pub next-child-requires : goal.next-child-requires
 next-child-requires c = omega (
@@ -21,12 +25,12 @@ next-child-requires c = omega (
 pub loop-preserved : goal.loop-preserved
 loop-preserved c =
     let cs = circle_of c.args.ring.now c.args.first c.args.count in
-    let table : ℕ → ℕ → Bool = λ i m. get_or (get_or c.args.rows.now i []) m false in
+    let table : ℕ → ℕ → Bool = λ i m. has (get_or c.args.rows.now i []) m in
     let here : get_or cs c.loop.counter 0 ≡ c.loop.child = ring_at _ _ _ _ c.loop.child c.loop-test.true c.loop.invariant.at in
     let lifted : (m : ℕ) → m < length c.args.tops.now →
     get_or c.lift_set.new.tops m 0 ≡ cond (table (get_or cs c.loop.counter 0) m) (get_or cs c.loop.counter 0)
     (get_or c.loop.tops m 0) =
-    λ m h. c.lift_set.ensures m (omega (arith, c.loop.auto.tops, h)) ∙
+    λ m h. c.lift_set.ensures m ∙
     ap (λ z. cond (table z m) z (get_or c.loop.tops m 0)) (sym here) in
     record {
       at = ring_next c.args.ring.now c.args.first c.loop.counter c.loop.child c.next-child.result c.loop.invariant.at c.next-child.ensures.value;

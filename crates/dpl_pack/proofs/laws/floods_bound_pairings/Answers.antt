@@ -1,7 +1,6 @@
 use Rattle.dpl_pack.proofs.PointLemmas.{load_apart, apart_over}
 use Rattle.dpl_pack.proofs.FloodLemmas.{flood_within}
 use Rattle.dpl_pack.proofs.StandLemmas.{within_flood}
-use Rattle.dpl_pack.proofs.FirstLemmas.{first_flood}
 use Rattle.dpl_pack.proofs.TightLemmas.{tight_total, tight_least}
 use Rattle.dpl_pack.proofs.laws.floods_bound_pairings.Goals as goal
 
@@ -13,9 +12,6 @@ returns-clause-within c = flood_within
 
 pub returns-clause-floods : goal.returns-clause-floods
 returns-clause-floods c = within_flood
-
-pub returns-clause-firsts : goal.returns-clause-firsts
-returns-clause-firsts c = first_flood
 
 pub returns-clause-equal : goal.returns-clause-equal
 returns-clause-equal c = tight_total

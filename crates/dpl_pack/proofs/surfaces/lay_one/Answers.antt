@@ -23,7 +23,7 @@ near_held-requires-clause-members c =
 
 pub near_held-requires-clause-inner : goal.near_held-requires-clause-inner
 near_held-requires-clause-inner c =
-    let P : List (ℕ × ℕ) → Type 0 = λ z. All (λ e. e.1 ≤ 2 ^ 62) z in
+    let P : List (ℕ × ℕ) → Type 0 = λ z. All (λ e. e.1 ≤ 2 ^ 72) z in
     subst P (sym c.row.ensures) (c.requires.surface.inner c.args.set)
 
 pub near_held-requires-clause-small : goal.near_held-requires-clause-small

@@ -30,12 +30,8 @@ lift_all-requires-clause-apart g c =
     (omega (arith, h, c.deref_mut.ensures.len, c.self.invariant.tops_length)) ka kb (rw c.deref.ensures.value at ta)
     (rw c.deref.ensures.value at tb))
 
-pub lift_all-requires-clause-singles : goal.lift_all-requires-clause-singles
-lift_all-requires-clause-singles g c = λ i m hi hm.
-    let single = c.self.invariant.family.laminar.sets.single i m
-    (omega (arith, hi, c.deref_mut.ensures.len, c.self.invariant.tops_length))
-    (omega (arith, hm, c.deref_mut.ensures.len, c.self.invariant.tops_length)) in
-    rw c.deref.ensures.value single
+pub lift_all-requires-clause-rows : goal.lift_all-requires-clause-rows
+lift_all-requires-clause-rows g c = rw (c.deref.ensures.value, c.deref_mut.ensures.value, c.self.invariant.tops_length) c.self.invariant.rows_are
 
 pub orphan-requires-clause-below : goal.orphan-requires-clause-below
 orphan-requires-clause-below g c =

@@ -1,21 +1,22 @@
-use Rattle.std.proofs.Common.{arith, ◌≡◌, ℕ, ◌+◌, ◌<◌, sym, ap, ◌∙◌, subst, false, cond, length, get_or, ◌++◌, take, drop}
+use Rattle.std.proofs.Common.{arith, ◌≡◌, ℕ, ◌+◌, ◌<◌, sym, ap, ◌∙◌, subst, cond, length, get_or, ◌++◌, take, drop}
 use Rattle.std.proofs.lemmas.List.{take_at}
 use Rattle.dpl_laminar.specs.Changes.{AreJoined, IsShrunk}
 use Rattle.dpl_laminar.specs.Storing.{Stored, sets_of, IsKept}
 use Rattle.dpl_laminar.specs.Families.{has}
 use Rattle.dpl_laminar.proofs.Numbers.{has_at}
 use Rattle.dpl_laminar.proofs.Keeping.{stored}
+use Rattle.dpl_laminar.proofs.Rows.{union_row}
 use Rattle.dpl_laminar.proofs.Shrinking.{AreWritten, with_set, tops_apart, members_united, row_fits, shrink_answer}
 use Rattle.dpl_laminar.proofs.family.Family.shrink.Given as given
 use Rattle.dpl_laminar.proofs.family.Family.shrink.Goals as goal
 
-pub union-requires-clause-sets : goal.union-requires-clause-sets
-union-requires-clause-sets g c = λ i h.
+pub union-requires : goal.union-requires
+union-requires g c = λ i h.
     let j = subst (λ (z : Stored). AreJoined (sets_of z) c.args.children.now c.args.joins.now) (sym c.self.view_is) c.requires in
     omega (arith, row_fits _ c.args.children.now c.args.joins.now i j h, ap length c.deref.ensures.value, c.self.invariant.rows_length)
 
-pub union-requires-clause-singles : goal.union-requires-clause-singles
-union-requires-clause-singles g c = rw c.deref.ensures.value c.self.invariant.family.laminar.sets.single
+pub name_of-name-requires-clause-rows : goal.name_of-name-requires-clause-rows
+name_of-name-requires-clause-rows g c = rw c.deref-2.ensures.value c.self.invariant.rows_are
 
 pub name_of-name-requires-clause-apart : goal.name_of-name-requires-clause-apart
 name_of-name-requires-clause-apart g c = λ m hm h.
@@ -25,6 +26,13 @@ name_of-name-requires-clause-apart g c = λ m hm h.
     rw c.deref-2.ensures.value (tops_apart _ _ _ m c.self.invariant (j.tops.below _ h0) (j.tops.below _ h1)
     (j.tops.parentless _ h0) (j.tops.parentless _ h1)
     (j.tops.distinct 0 1 (omega arith) (omega (arith, j.tops.several))) hm (rw c.deref-2.ensures.value at h))
+
+pub lift-requires : goal.lift-requires
+lift-requires g c =
+    let held = rw c.deref.ensures.value at c.in_ok-members.ensures.held in
+    let row = union_row c.self.inside.size c.self.inside.rows.items c.args.children.now c.in_ok-members.members
+    c.self.invariant.rows_are c.in_ok-members.ensures.rising held in
+    rw (c.as_slice.ensures, c.deref_mut.ensures.value, c.self.invariant.tops_length) row.below
 
 pub adopt-requires : goal.adopt-requires
 adopt-requires g c = λ i h.
@@ -64,14 +72,16 @@ answer : (g : given.Over) (c : goal.After-self-7-1 g) → IsKept (after g c) ×
     (sets_of (after g c))
 answer g c =
     let j = subst (λ (z : Stored). AreJoined (sets_of z) c.args.children.now c.args.joins.now) (sym c.self.view_is) c.requires in
-    let members : (m : ℕ) → m < c.self.inside.size → get_or c.in_ok-members.members m false ≡
+    let held = rw c.deref.ensures.value at c.in_ok-members.ensures.held in
+    let members : (m : ℕ) → m < c.self.inside.size → has c.in_ok-members.members m ≡
     has c.args.children.now (get_or c.self.inside.tops.items m 0) =
-    λ m h. (rw c.deref.ensures.value at c.in_ok-members.ensures) m h ∙
+    λ m h. held m ∙
     members_united (before g c) c.args.children.now c.args.joins.now m c.self.invariant j h in
-    let lifted = rw c.deref_mut.ensures.value at c.lift.ensures in
+    let lifted = rw (c.deref_mut.ensures.value, c.as_slice.ensures) at c.lift.ensures in
     let written : AreWritten (before g c) c.args.children.now c.args.joins.now
     (c.self.inside.size + c.name_of-name.result) c.in_ok-members.members c.adopt.new.parents c.tie.new.ring
     c.join.new.all c.lift.new.tops = record {
+      row_is = union_row _ _ _ _ c.self.invariant.rows_are c.in_ok-members.ensures.rising held;
       members = members;
       parents_length = c.adopt.auto.parents ∙ ap length c.deref_mut-2.ensures.value;
       parents = rw c.deref_mut-2.ensures.value at c.adopt.ensures;
@@ -82,7 +92,7 @@ answer g c =
       joins = c.join.ensures.each;
       joins_others = rw c.deref_mut-3.ensures.value at c.join.ensures.others;
       tops_length = c.lift.auto.tops ∙ ap length c.deref_mut.ensures.value;
-      tops = λ m h. lifted m h ∙ ap (λ z. cond z (c.self.inside.size + c.name_of-name.result) (get_or c.self.inside.tops.items m 0))
+      tops = λ m h. lifted m ∙ ap (λ z. cond z (c.self.inside.size + c.name_of-name.result) (get_or c.self.inside.tops.items m 0))
           (members m (omega (arith, h, c.self.invariant.tops_length)));
     } in
     shrink_answer _ c.args.children.now c.args.joins.now c.name_of-name.result _ _ _ _ _ _ _ _ c.self.invariant j
