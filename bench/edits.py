@@ -276,8 +276,7 @@ def limits() -> Iterator[tuple[str, list[str], list[Box], list[str], str | None]
     strip = halves(run.strip(2_051))
     x, y, _, _ = strip[2_049]
     joint = (x, y - 100, x + 50, y)
-    yield "odd faces by a box that comes", SPACING, strip[:-1], [run.add(strip[-1])], "limit 8 count 2050"
-    yield "odd faces by a box that goes", SPACING, strip[:-1], [run.add(joint), run.add(strip[-1]), "remove 0"], "limit 8 count 2050"
+    yield "many odd faces by a box that goes", SPACING, strip[:-1], [run.add(joint), run.add(strip[-1]), "remove 0"], None
     yield "a box far away", SPACING, strip[:-1], [run.add(far), "remove 0"], None
 
 

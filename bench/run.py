@@ -462,7 +462,9 @@ def layouts() -> Iterator[tuple[str, int, Callable[[int], Boxes]]]:
     yield "level wires", 24_500, level_wires
     yield "random boxes", 20_000, random_boxes
     yield "level wires, six close to each", 250, close_wires
-    yield "a strip of odd faces", 1_025, strip
+    yield "a strip of odd faces", 24_500, strip
+    yield "a shaken grid", 22_500, lambda n: shaken_grid(n, 45, 8, 1)
+    yield "a shaken triangular lattice", 22_500, lambda n: shaken_lattice(int(n**0.5), 64, 11, 1, 60)
     yield "uprights under a cover", 24_500, under_a_cover
     yield "boxes laid over each other", 24_500, laid_over
     yield "crossing wires of n tiles", 49_000, lambda n: crossing(int((n / 2) ** 0.5))

@@ -25,7 +25,6 @@ LIMITS = {
     5: ("tiles", 100_000, PARTS),
     6: ("fragments", 100_000, f"{PARTS}; a larger overlap gives fewer cuts"),
     7: ("bonds, stitches and clashes", 400_000, f"{PARTS}; a smaller spacing gives fewer clashes"),
-    8: ("odd faces in one part of the drawing", 2_048, f"the layer is denser than two masks can take: a smaller spacing, or {PARTS}"),
     9: ("bytes of the report", 268_435_456, "is this the report of this layout?"),
     10: ("bytes of the script", 65_536, "draw the boxes that stay in the layout, and give the other lines"),
 }

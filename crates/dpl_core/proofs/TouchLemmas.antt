@@ -8,7 +8,6 @@ use Rattle.dpl_cycle.specs.Sums.{sum_on}
 use Rattle.dpl_sign.specs.declared.nets.Net.{Net}
 use Rattle.dpl_sign.specs.Walks.{no_edge, edge_at}
 use Rattle.dpl_sign.specs.Colourings.{IsColouring, is_broken, breaks, colour_of}
-use Rattle.dpl_sign.specs.Excess.{is_aside}
 use Rattle.dpl_sign.proofs.Loads.{sum_to, sum_by_places}
 use Rattle.dpl_solve.specs.Named.{keeps}
 use Rattle.dpl_solve.specs.Solved.{kept_cost}

@@ -7,7 +7,7 @@ ghost use Rattle.dpl_layer.specs.Reasons.{FirstOf};
 ghost use Rattle.dpl_report.specs.Plain.{plain_report};
 ghost use Rattle.dpl_balance.specs.Balance.{AreBalanced};
 ghost use Rattle.dpl_core.specs.Reports.{HaveMasks, IsBalancedSplit, IsReportOfNet};
-ghost use Rattle.dpl_core.specs.Refusals.{split_reasons};
+ghost use Rattle.dpl_layer.specs.Refusals.{layer_reasons};
 
 use crate::making::{Made, make_commands};
 use crate::solving::report_is_of_the_layer;
@@ -29,8 +29,8 @@ pub fn balance_commands(
     requires cut { (length text.now ≤ MOST_LAYOUT_BYTES) × (commands.now ≡ commands_of text.now) }
     ensures split { IfOk result (λ v. IsBalancedSplit options.now text.now v.items) }
     ensures refused { (e : LayerError) → result ≡ Err e →
-        (e ≡ LayerError.NoMemory) ⊎ FirstOf (split_reasons options.now text.now) e }
-    ensures exact { (e : LayerError) → FirstOf (split_reasons options.now text.now) e →
+        (e ≡ LayerError.NoMemory) ⊎ FirstOf (layer_reasons options.now text.now) e }
+    ensures exact { (e : LayerError) → FirstOf (layer_reasons options.now text.now) e →
         (result ≡ Err e) ⊎ (result ≡ Err LayerError.NoMemory) }
 {
     let Made { layer, report } = make_commands(alloc, text, commands, options)?;

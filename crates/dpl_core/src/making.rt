@@ -6,7 +6,7 @@ ghost use Rattle.dpl_layer.specs.Layers.{IsLayerOfText};
 ghost use Rattle.dpl_report.specs.Plain.{plain_report};
 ghost use Rattle.dpl_core.specs.Reports.{IsReportOf, IsReportOfNet, IsSplit};
 ghost use Rattle.dpl_layer.specs.Reasons.{FirstOf};
-ghost use Rattle.dpl_core.specs.Refusals.{split_reasons};
+ghost use Rattle.dpl_layer.specs.Refusals.{layer_reasons};
 
 use crate::solving::report_of_layer;
 use dpl_layer::{Layer, LayerError, layer_of_commands};
@@ -21,8 +21,8 @@ pub fn make(alloc: Global, text: &[u8], options: &Options) -> Result<Report, Lay
     requires { length text.now ≤ MOST_LAYOUT_BYTES }
     ensures made { IfOk result (λ r. IsReportOf options.now text.now (plain_report r)) }
     ensures refused { (e : LayerError) → result ≡ Err e →
-        (e ≡ LayerError.NoMemory) ⊎ FirstOf (split_reasons options.now text.now) e }
-    ensures exact { (e : LayerError) → FirstOf (split_reasons options.now text.now) e →
+        (e ≡ LayerError.NoMemory) ⊎ FirstOf (layer_reasons options.now text.now) e }
+    ensures exact { (e : LayerError) → FirstOf (layer_reasons options.now text.now) e →
         (result ≡ Err e) ⊎ (result ≡ Err LayerError.NoMemory) }
 {
     let Ok(commands) = commands(alloc, text) else {
@@ -37,8 +37,8 @@ pub fn split(alloc: Global, text: &[u8], options: &Options) -> Result<Vec<u8>, L
     requires { length text.now ≤ MOST_LAYOUT_BYTES }
     ensures split { IfOk result (λ v. IsSplit options.now text.now v.items) }
     ensures refused { (e : LayerError) → result ≡ Err e →
-        (e ≡ LayerError.NoMemory) ⊎ FirstOf (split_reasons options.now text.now) e }
-    ensures exact { (e : LayerError) → FirstOf (split_reasons options.now text.now) e →
+        (e ≡ LayerError.NoMemory) ⊎ FirstOf (layer_reasons options.now text.now) e }
+    ensures exact { (e : LayerError) → FirstOf (layer_reasons options.now text.now) e →
         (result ≡ Err e) ⊎ (result ≡ Err LayerError.NoMemory) }
 {
     let Ok(commands) = commands(alloc, text) else {
@@ -57,8 +57,8 @@ pub fn split_commands(
     requires cut { (length text.now ≤ MOST_LAYOUT_BYTES) × (commands.now ≡ commands_of text.now) }
     ensures split { IfOk result (λ v. IsSplit options.now text.now v.items) }
     ensures refused { (e : LayerError) → result ≡ Err e →
-        (e ≡ LayerError.NoMemory) ⊎ FirstOf (split_reasons options.now text.now) e }
-    ensures exact { (e : LayerError) → FirstOf (split_reasons options.now text.now) e →
+        (e ≡ LayerError.NoMemory) ⊎ FirstOf (layer_reasons options.now text.now) e }
+    ensures exact { (e : LayerError) → FirstOf (layer_reasons options.now text.now) e →
         (result ≡ Err e) ⊎ (result ≡ Err LayerError.NoMemory) }
 {
     let Made { report, .. } = make_commands(alloc, text, commands, options)?;
@@ -87,8 +87,8 @@ pub fn make_commands(
         IsReportOfNet options.now m.layer.fragments m.layer.net (plain_report m.report)) }
     ensures made { IfOk result (λ m. IsReportOf options.now text.now (plain_report m.report)) }
     ensures refused { (e : LayerError) → result ≡ Err e →
-        (e ≡ LayerError.NoMemory) ⊎ FirstOf (split_reasons options.now text.now) e }
-    ensures exact { (e : LayerError) → FirstOf (split_reasons options.now text.now) e →
+        (e ≡ LayerError.NoMemory) ⊎ FirstOf (layer_reasons options.now text.now) e }
+    ensures exact { (e : LayerError) → FirstOf (layer_reasons options.now text.now) e →
         (result ≡ Err e) ⊎ (result ≡ Err LayerError.NoMemory) }
 {
     let layer = layer_of_commands(alloc, text, commands, options)?;

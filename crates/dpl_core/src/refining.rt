@@ -11,7 +11,7 @@ ghost use Rattle.dpl_sign.specs.Colourings.{IsColouring};
 ghost use Rattle.dpl_sign.specs.Packings.{IsPacking, bound_of};
 ghost use Rattle.dpl_good.specs.Truths.{SaysTrue};
 ghost use Rattle.dpl_core.specs.Reports.{HaveMasks, IsRefinedSplit, IsReportOfNet, IsRefinedOfNet};
-ghost use Rattle.dpl_core.specs.Refusals.{split_reasons};
+ghost use Rattle.dpl_layer.specs.Refusals.{layer_reasons};
 
 use crate::making::{Made, make_commands};
 use crate::solving::true_report_is_of_the_layer;
@@ -38,8 +38,8 @@ pub fn refine_commands(
     requires cut { (length text.now ≤ MOST_LAYOUT_BYTES) × (commands.now ≡ commands_of text.now) }
     ensures split { IfOk result (λ v. IsRefinedSplit options.now text.now v.items) }
     ensures refused { (e : LayerError) → result ≡ Err e →
-        (e ≡ LayerError.NoMemory) ⊎ FirstOf (split_reasons options.now text.now) e }
-    ensures exact { (e : LayerError) → FirstOf (split_reasons options.now text.now) e →
+        (e ≡ LayerError.NoMemory) ⊎ FirstOf (layer_reasons options.now text.now) e }
+    ensures exact { (e : LayerError) → FirstOf (layer_reasons options.now text.now) e →
         (result ≡ Err e) ⊎ (result ≡ Err LayerError.NoMemory) }
 {
     let Made { layer, report } = make_commands(alloc, text, commands, options)?;

@@ -41,8 +41,6 @@ recoloured o cells kept s colours cost h k same is = record {
     tight = let t = h.optimum.tight in let e : kept_cost s.net colours ≡ kept_cost s.net s.colours = same in omega (arith, t, e);
     rest = is ∙ cost_parted s.net colours;
     once = h.optimum.once;
-    parts = h.optimum.parts;
     few = h.optimum.few;
   };
-  small = h.small;
 }

@@ -10,7 +10,7 @@ use Rattle.dpl_options.specs.Options.{PlainOptions}
 use Rattle.dpl_layer.specs.Drawings.{Cells}
 use Rattle.dpl_layer.specs.declared.error.LayerError.{LayerError}
 use Rattle.dpl_layer.specs.Reasons.{FirstOf, IsOver}
-use Rattle.dpl_core.specs.Refusals.{report_reasons}
+use Rattle.dpl_layer.specs.Refusals.{cells_reasons}
 use Rattle.dpl_edit.specs.declared.placed.Placed.{Placed}
 
 -- what was there at first, then the boxes that were added and not removed, in the order of adding
@@ -43,7 +43,7 @@ HasBox number boxes = has_number number boxes ≡ true
 abbrev pub content_reasons : PlainOptions → List Primitive → List Primitive →
     List (LayerError → Type 0)
 content_reasons o prims keep = IsOver Counted.Primitives (prim_count prims)
-    ∷ report_reasons o (cells_in prims) (cells_in keep)
+    ∷ cells_reasons o (cells_in prims) (cells_in keep)
 
 -- the content is refused with this answer
 abbrev pub Refuses : PlainOptions → List Primitive → List Primitive → LayerError → Type 0

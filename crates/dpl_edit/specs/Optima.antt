@@ -9,7 +9,7 @@ use Rattle.dpl_sign.specs.declared.walks.Cycle.{Cycle}
 use Rattle.dpl_sign.specs.Colourings.{colour_of}
 use Rattle.dpl_cuts.specs.declared.types.Fragments.{Fragments}
 use Rattle.dpl_options.specs.Options.{PlainOptions}
-use Rattle.dpl_solve.specs.Solved.{IsSolution, IsRefused}
+use Rattle.dpl_solve.specs.Solved.{IsSolution}
 use Rattle.dpl_layer.specs.Drawings.{Cells}
 use Rattle.dpl_layer.specs.Layers.{IsCutLayer}
 use Rattle.dpl_stay.specs.Order.{AreRectsInOrder}
@@ -47,7 +47,6 @@ solved_of s = record {
 pub record IsSolved (o : PlainOptions) (cells kept : Cells) (s : Optimum) : Type 0 where
   pub layer : IsCutLayer o cells kept s.fragments s.net
   pub optimum : IsSolution s.net s.colours s.cost s.aside s.excess s.cycles s.bound
-  pub small : (n : ℕ) → ¬ IsRefused s.net n
 
 -- an optimum of the layer of some cells
 pub record IsSomeOptimum (o : PlainOptions) (s : Optimum) : Type 0 where

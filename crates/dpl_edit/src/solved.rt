@@ -1,10 +1,10 @@
 // The net of a content and its optimum.
-ghost use Rattle.std.specs.Prelude.{◌≡◌, ◌⊎◌, ◌≤◌, ℕ, length, take, IfOk, IfErr, OnOk, Err};
+ghost use Rattle.std.specs.Prelude.{◌≡◌, ◌⊎◌, ◌≤◌, length, take, IfOk, IfErr, OnOk};
 ghost use Rattle.dpl_limits.specs.declared.TheConstants.{MOST_EDGES};
 ghost use Rattle.dpl_cell.specs.Layers.{cells_of};
-ghost use Rattle.dpl_solve.specs.Solved.{IsSolution, IsRefused};
+ghost use Rattle.dpl_solve.specs.Solved.{IsSolution};
 ghost use Rattle.dpl_layer.specs.Reasons.{FirstOf};
-ghost use Rattle.dpl_core.specs.Refusals.{report_reasons};
+ghost use Rattle.dpl_layer.specs.Refusals.{cells_reasons};
 ghost use Rattle.dpl_edit.specs.Contents.{content, Refuses};
 ghost use Rattle.dpl_edit.specs.Optima.{IsSolved, IsSolvedContent, AreSolved, AreKnown, solved_of};
 
@@ -17,7 +17,7 @@ use dpl_layer::{Drawing, Layer, LayerError, layer_of};
 use dpl_limits::Counted;
 use dpl_list::Items;
 use dpl_options::Options;
-use dpl_solve::{Solution, SolveError};
+use dpl_solve::Solution;
 use dpl_sum::{SolvedPart, solve_again};
 use std::alloc::{AllocError as NoMemory, Global};
 use std::mem;
@@ -37,21 +37,15 @@ fn solve_layer(
     layer: &Layer,
     old_rects: &[Rect],
     known: &[SolvedPart],
-) -> Result<dpl_sum::Solved, SolveError>
+) -> Result<dpl_sum::Solved, NoMemory>
     requires edges { length layer.now.net.graph.edges ≤ MOST_EDGES }
     requires known { AreKnown old_rects.now known.now }
     ensures solved { IfOk result (λ r. IsSolution layer.now.net r.solution.colours.items
         r.solution.cost r.solution.aside r.solution.excess r.solution.cycles r.solution.bound) }
     ensures parts { IfOk result (λ r. AreSolved r.parts.items) }
-    ensures refused { (n : ℕ) → result ≡ Err (SolveError.OddFaces n) → IsRefused layer.now.net n }
-    ensures exact { (n : ℕ) → IsRefused layer.now.net n →
-        (result ≡ Err (SolveError.OddFaces n)) ⊎ (result ≡ Err SolveError.NoMemory) }
 {
     let rects = layer.fragments.rects.as_slice();
-    let places = match places(alloc, rects, old_rects, known) {
-        Ok(places) => places,
-        Err(_) => return Err(SolveError::NoMemory),
-    };
+    let places = places(alloc, rects, old_rects, known)?;
     solve_again(alloc, &layer.net, known, places.as_slice())
 }
 
@@ -68,7 +62,7 @@ fn solve_drawing(
         (cells_of drawing.now.keep) (solved_of s)) }
     ensures parts { IfOk result (λ s. AreSolved s.parts.items) }
     ensures refused { IfErr result (λ e. (e ≡ LayerError.NoMemory) ⊎
-        FirstOf (report_reasons options.now (cells_of drawing.now.layer)
+        FirstOf (cells_reasons options.now (cells_of drawing.now.layer)
         (cells_of drawing.now.keep)) e) }
 {
     let layer = match layer_of(alloc, drawing, options) {
@@ -84,11 +78,7 @@ fn solve_drawing(
                 parts,
             })
         }
-        Err(SolveError::OddFaces(count)) => Err(LayerError::Limit {
-            kind: Counted::OddFaces.number(),
-            count: u64::from(count),
-        }),
-        Err(SolveError::NoMemory) => Err(LayerError::NoMemory),
+        Err(_) => Err(LayerError::NoMemory),
     }
 }
 

@@ -16,8 +16,7 @@ pub enum LayerError {
     #[error("command {command} breaks the rule {what:?}")]
     Layout { command: u32, what: What },
     /// The first limit that is passed and the count that passes it: primitives (2), calls
-    /// (3), the greatest coordinate in grid units (4), tiles (5), fragments (6), edges (7),
-    /// odd faces of one part of the net (8).
+    /// (3), the greatest coordinate in grid units (4), tiles (5), fragments (6), edges (7).
     #[error("limit {kind} is passed by {count}")]
     Limit { kind: u8, count: u64 },
     #[error("out of memory")]

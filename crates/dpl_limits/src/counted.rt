@@ -3,8 +3,8 @@ ghost use Rattle.std.specs.Prelude.{◌≡◌};
 ghost use Rattle.dpl_limits.specs.Limits.{number_of, most_of};
 
 use crate::{
-    FARTHEST, MOST_CALLS, MOST_EDGES, MOST_FRAGMENTS, MOST_LAYOUT_BYTES, MOST_ODD_FACES,
-    MOST_PRIMITIVES, MOST_REPORT_BYTES, MOST_SCRIPT_BYTES, MOST_TILES,
+    FARTHEST, MOST_CALLS, MOST_EDGES, MOST_FRAGMENTS, MOST_LAYOUT_BYTES, MOST_PRIMITIVES,
+    MOST_REPORT_BYTES, MOST_SCRIPT_BYTES, MOST_TILES,
 };
 
 /// What a limit counts. The bytes of a layout, of a report and of a script are counted as they are
@@ -19,8 +19,6 @@ pub enum Counted {
     Tiles,
     Fragments,
     Edges,
-    /// The odd faces of one part of a net.
-    OddFaces,
     ReportBytes,
     ScriptBytes,
 }
@@ -38,7 +36,6 @@ impl Counted {
             Counted::Tiles => 5,
             Counted::Fragments => 6,
             Counted::Edges => 7,
-            Counted::OddFaces => 8,
             Counted::ReportBytes => 9,
             Counted::ScriptBytes => 10,
         }
@@ -56,7 +53,6 @@ impl Counted {
             Counted::Tiles => MOST_TILES as u64,
             Counted::Fragments => MOST_FRAGMENTS as u64,
             Counted::Edges => MOST_EDGES as u64,
-            Counted::OddFaces => MOST_ODD_FACES as u64,
             Counted::ReportBytes => MOST_REPORT_BYTES,
             Counted::ScriptBytes => MOST_SCRIPT_BYTES,
         }

@@ -32,9 +32,6 @@ pub const MOST_FRAGMENTS: usize = 100_000;
 /// The most edges of the net: bonds, stitches and clashes.
 pub const MOST_EDGES: usize = 400_000;
 
-/// The most odd faces of one part of the drawing.
-pub const MOST_ODD_FACES: usize = 2048;
-
 /// The most bytes of a report.
 pub const MOST_REPORT_BYTES: u64 = 268_435_456;
 

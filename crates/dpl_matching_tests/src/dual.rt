@@ -1,10 +1,4 @@
-ghost use Rattle.std.specs.Prelude.{IfOk};
-ghost use Rattle.dpl_dual.specs.Duals.{CameFromDual};
-
-use dpl_dual::types::Distances;
-use dpl_dual::{
-    Dual, Start, distances, distances_from, distances_from_any, distances_within, dual,
-};
+use dpl_dual::{Dual, dual};
 use dpl_map::build;
 use dpl_sign::Net;
 use dpl_test_nets::nets::At::{East, North, South, West};
@@ -14,21 +8,15 @@ use std::process::Abort;
 use std::test::Fail;
 
 /// The dual of the map of a net.
-pub fn dual_of(alloc: Global, net: &Net) -> Result<Dual, AllocError>
-    ensures { IfOk result (λ d. CameFromDual d) }
-{
+pub fn dual_of(alloc: Global, net: &Net) -> Result<Dual, AllocError> {
     let map = build(alloc, net)?;
-    let faces = dual(alloc, &map, &net.graph)?;
-    Ok(faces)
+    dual(alloc, &map, &net.graph)
 }
 
 /// The dual of a net with so many nodes and these links.
-fn drawn_dual(alloc: Global, nodes: u32, links: &[Link]) -> Result<Dual, Fail>
-    ensures { IfOk result (λ d. CameFromDual d) }
-{
+fn drawn_dual(alloc: Global, nodes: u32, links: &[Link]) -> Result<Dual, Fail> {
     let net = net(alloc, nodes, links)?;
-    let faces = dual_of(alloc, &net)?;
-    Ok(faces)
+    Ok(dual_of(alloc, &net)?)
 }
 
 /// How many faces there are, how many of them are odd, and how many ways lead between them.
@@ -50,76 +38,24 @@ fn way(alloc: Global, nodes: u32, links: &[Link], i: usize) -> Result<(u32, u32,
     }
 }
 
-/// The least length from one face to another, and how many edges a path of that length has.
-fn distance(
-    alloc: Global,
-    nodes: u32,
-    links: &[Link],
-    from: u32,
-    to: u32,
-) -> Result<(Option<u64>, usize), Fail> {
-    let dual = drawn_dual(alloc, nodes, links)?;
-    if from >= dual.faces {
-        return Err("no such face")?;
+/// The part of a face, and `None` where there is no such face.
+pub fn part_of(dual: &Dual, face: u32) -> Option<u32> {
+    match dual.part.as_slice().get(face as usize) {
+        Some(part) => Some(*part),
+        None => None,
     }
-    let mut reach = Distances::new(alloc);
-    distances(&dual, from, &mut reach)?;
-    let path = reach.path(alloc, to)?;
-    Ok((reach.to(to), path.len()))
 }
 
-/// The least length up to a limit from the first face to the second, and whether it is less.
-fn within(
+/// Whether two faces are of one part.
+fn are_of_one_part(
     alloc: Global,
     nodes: u32,
     links: &[Link],
-    limit: u64,
-) -> Result<(Option<u64>, u64), Fail> {
+    f: u32,
+    g: u32,
+) -> Result<bool, Fail> {
     let dual = drawn_dual(alloc, nodes, links)?;
-    if limit == 0 {
-        return Err("no such limit")?;
-    }
-    if dual.faces == 0 {
-        return Err("no face")?;
-    }
-    let mut reach = Distances::new(alloc);
-    distances_within(&dual, 0, limit, &mut reach)?;
-    Ok((reach.to(1), reach.up_to(1, limit)))
-}
-
-/// The face of a start, and what chains from it are longer by.
-type Begins = (u32, u32);
-
-/// The least lengths below a limit from the nearer of two starts to the first two faces.
-fn nearest(
-    alloc: Global,
-    nodes: u32,
-    links: &[Link],
-    (first, second): (Begins, Begins),
-    limit: u64,
-) -> Result<(Option<u64>, Option<u64>), Fail> {
-    let dual = drawn_dual(alloc, nodes, links)?;
-    if (first.0 >= dual.faces) | (second.0 >= dual.faces) {
-        return Err("no such face")?;
-    }
-    let starts = [
-        Start {
-            face: first.0,
-            far: first.1 as u64,
-        },
-        Start {
-            face: second.0,
-            far: second.1 as u64,
-        },
-    ];
-    let mut reach = Distances::new(alloc);
-    distances_from(&dual, &starts, limit, &mut reach)?;
-    let found = (reach.to(0), reach.to(1));
-    distances_from_any(&dual, &starts, limit, &mut reach)?;
-    if (reach.to(0), reach.to(1)) != found {
-        return Err("other lengths from all starts at once")?;
-    }
-    Ok(found)
+    Ok(part_of(&dual, f) == part_of(&dual, g))
 }
 
 /// Compares the odd faces.
@@ -164,50 +100,6 @@ fn odd_triangle(rt: HostRuntime) -> Result<(), Fail> {
     compare_odd(&rt, rt.alloc(), 3, &links, &[0, 1])?;
     compare_parts(&rt, rt.alloc(), 3, &links, &[0, 0])?;
     assert_eq!(rt; way(rt.alloc(), 3, &links, 2)?, (0, 1, 2, 20));
-    assert_eq!(rt; distance(rt.alloc(), 3, &links, 0, 1)?, (Some(20), 1));
-    assert_eq!(rt; distance(rt.alloc(), 3, &links, 1, 1)?, (Some(0), 0));
-    Ok(())
-}
-
-/// A limit of 20 does not reach the face that is 20 away, and one of 21 does.
-#[test]
-fn nearer_than_a_limit(rt: HostRuntime) -> Result<(), Fail> {
-    let links = triangle();
-    assert_eq!(rt; within(rt.alloc(), 3, &links, 1)?, (None, 1));
-    assert_eq!(rt; within(rt.alloc(), 3, &links, 20)?, (None, 20));
-    assert_eq!(rt; within(rt.alloc(), 3, &links, 21)?, (Some(20), 20));
-    assert_eq!(rt; within(rt.alloc(), 3, &links, 50)?, (Some(20), 20));
-    Ok(())
-}
-
-/// Two faces that are 20 apart, with something added to the chains from each.
-#[test]
-fn nearer_of_two_starts(rt: HostRuntime) -> Result<(), Fail> {
-    let links = triangle();
-    assert_eq!(rt;
-        nearest(rt.alloc(), 3, &links, ((0, 5), (1, 9)), 50)?,
-        (Some(5), Some(9))
-    );
-    assert_eq!(rt;
-        nearest(rt.alloc(), 3, &links, ((0, 5), (1, 30)), 50)?,
-        (Some(5), Some(25))
-    );
-    assert_eq!(rt;
-        nearest(rt.alloc(), 3, &links, ((0, 30), (1, 5)), 50)?,
-        (Some(25), Some(5))
-    );
-    assert_eq!(rt;
-        nearest(rt.alloc(), 3, &links, ((0, 5), (1, 30)), 25)?,
-        (Some(5), None)
-    );
-    assert_eq!(rt;
-        nearest(rt.alloc(), 3, &links, ((0, 7), (0, 3)), 50)?,
-        (Some(3), Some(23))
-    );
-    assert_eq!(rt;
-        nearest(rt.alloc(), 3, &links, ((0, 5), (1, 9)), 5)?,
-        (None, None)
-    );
     Ok(())
 }
 
@@ -225,7 +117,6 @@ fn pair(rt: HostRuntime) -> Result<(), Fail> {
 fn two_single_nodes(rt: HostRuntime) -> Result<(), Fail> {
     assert_eq!(rt; counts(rt.alloc(), 2, &[])?, (2, 0, 0));
     compare_parts(&rt, rt.alloc(), 2, &[], &[0, 1])?;
-    assert_eq!(rt; distance(rt.alloc(), 2, &[], 0, 1)?, (None, 0));
     Ok(())
 }
 
@@ -239,7 +130,9 @@ fn ring(rt: HostRuntime) -> Result<(), Fail> {
         clash(2, 3, 4, West(0), East(0)),
     ];
     assert_eq!(rt; counts(rt.alloc(), 4, &links)?, (2, 0, 4));
-    assert_eq!(rt; distance(rt.alloc(), 4, &links, 0, 1)?, (Some(2), 1));
+    compare_parts(&rt, rt.alloc(), 4, &links, &[0, 0])?;
+    let (_, _, edge, length) = way(rt.alloc(), 4, &links, 1)?;
+    assert_eq!(rt; (edge, length), (1, 2));
     Ok(())
 }
 
@@ -255,10 +148,7 @@ fn two_parts(rt: HostRuntime) -> Result<(), Fail> {
         clash(4, 5, 9, North(0), East(0)),
     ];
     compare_odd(&rt, rt.alloc(), 6, &links, &[0, 1, 2, 3])?;
-    compare_parts(&rt, rt.alloc(), 6, &links, &[0, 0, 2, 2])?;
-    assert_eq!(rt; distance(rt.alloc(), 6, &links, 0, 1)?, (Some(6), 1));
-    assert_eq!(rt; distance(rt.alloc(), 6, &links, 1, 2)?, (None, 0));
-    assert_eq!(rt; distance(rt.alloc(), 6, &links, 3, 2)?, (Some(14), 1));
+    compare_parts(&rt, rt.alloc(), 6, &links, &[0, 0, 1, 1])?;
     Ok(())
 }
 
@@ -279,16 +169,16 @@ fn bonds_between_parts(rt: HostRuntime) -> Result<(), Fail> {
     compare_odd(&rt, rt.alloc(), 5, &links, &[0, 1, 2, 3])?;
     let (f, g, edge, length) = way(rt.alloc(), 5, &links, 0)?;
     assert_eq!(rt; (edge, length), (3, 12));
-    assert_eq!(rt; distance(rt.alloc(), 5, &links, f, g)?, (Some(2), 1));
+    assert!(rt; are_of_one_part(rt.alloc(), 5, &links, f, g)?);
     let (h, i, edge, length) = way(rt.alloc(), 5, &links, 2)?;
     assert_eq!(rt; (edge, length), (5, 6));
-    assert_eq!(rt; distance(rt.alloc(), 5, &links, h, i)?, (Some(4), 1));
-    assert_eq!(rt; distance(rt.alloc(), 5, &links, f, h)?, (None, 0));
+    assert!(rt; are_of_one_part(rt.alloc(), 5, &links, h, i)?);
+    assert!(rt; !are_of_one_part(rt.alloc(), 5, &links, f, h)?);
     Ok(())
 }
 
-/// A square with both diagonals, of which the second is set aside. Around the heavy diagonal that
-/// is kept the outer face is a shorter way from one triangle to the other.
+/// A square with both diagonals, of which the second is set aside. The first one is a way from one
+/// triangle to the other.
 #[test]
 fn square_with_both_diagonals(rt: HostRuntime) -> Result<(), Fail> {
     let links = [
@@ -300,8 +190,9 @@ fn square_with_both_diagonals(rt: HostRuntime) -> Result<(), Fail> {
         clash(1, 3, 3, West(0), East(0)),
     ];
     assert_eq!(rt; counts(rt.alloc(), 4, &links)?, (3, 2, 5));
+    compare_parts(&rt, rt.alloc(), 4, &links, &[0, 0, 0])?;
     let (f, g, edge, length) = way(rt.alloc(), 4, &links, 4)?;
     assert_eq!(rt; (edge, length), (4, 6));
-    assert_eq!(rt; distance(rt.alloc(), 4, &links, f, g)?, (Some(4), 2));
+    assert!(rt; f != g);
     Ok(())
 }

@@ -1,11 +1,7 @@
-//! Distances over grids that are drawn by lot, against a plain program.
+//! Parts over grids that are drawn by lot, against a plain program.
 
-ghost use Rattle.std.specs.Prelude.{◌<◌};
-ghost use Rattle.dpl_dual.specs.Duals.{CameFromDual};
-
-use crate::dual::dual_of;
-use dpl_dual::types::Distances;
-use dpl_dual::{Dual, distances};
+use crate::dual::{dual_of, part_of};
+use dpl_dual::Dual;
 use dpl_sign::Net;
 use dpl_test_nets::nets::At::{East, North, South, West};
 use dpl_test_nets::nets::{At, Link, bond, clash, net, stitch};
@@ -69,113 +65,55 @@ fn grid(alloc: Global, seed: u64) -> Result<Net, Fail> {
     net(alloc, 30, links.as_slice())
 }
 
-/// A length, and the greatest number where there is none.
-fn at(lengths: &[u64], face: u32) -> u64 {
-    match lengths.get(face as usize) {
-        Some(length) => *length,
-        None => u64::MAX,
+/// The name that stands for a face, and the greatest number where there is none.
+fn at(names: &[u32], face: u32) -> u32 {
+    match names.get(face as usize) {
+        Some(name) => *name,
+        None => u32::MAX,
     }
 }
 
-/// Lowers the length of one side of a way, where the other side is nearer.
-fn relax(lengths: &mut [u64], f: u32, g: u32, length: u64) {
-    let next = at(lengths, f).saturating_add(length);
-    if next < at(lengths, g) && (g as usize) < lengths.len() {
-        lengths[g as usize] = next;
+/// Gives the face on one side of a way the name of that on the other, where it is less.
+fn pass_on(names: &mut [u32], f: u32, g: u32) {
+    let name = at(names, f);
+    if name < at(names, g) && (g as usize) < names.len() {
+        names[g as usize] = name;
     }
 }
 
-/// The least lengths from a face, by looking at all ways again and again.
-fn plain_lengths(alloc: Global, dual: &Dual, from: u32) -> Result<Vec<u64>, AllocError> {
-    let mut lengths = vec![in alloc; u64::MAX; dual.faces as usize]?;
-    if (from as usize) < lengths.len() {
-        lengths[from as usize] = 0;
+/// For each face the least face that ways join it to, by looking at all ways again and again.
+fn least_faces(alloc: Global, dual: &Dual) -> Result<Vec<u32>, AllocError> {
+    let mut names = Vec::new(alloc);
+    for face in 0..dual.faces {
+        names.push(face)?;
     }
     for _round in 0..dual.faces {
         for way in dual.crosses.as_slice() {
-            relax(&mut lengths, way.f, way.g, way.length);
-            relax(&mut lengths, way.g, way.f, way.length);
+            pass_on(&mut names, way.f, way.g);
+            pass_on(&mut names, way.g, way.f);
         }
     }
-    Ok(lengths)
+    Ok(names)
 }
 
-/// The length of the way across an edge.
-fn length_across(dual: &Dual, edge: u32) -> u64 {
-    for way in dual.crosses.as_slice() {
-        if way.edge == edge {
-            return way.length;
-        }
-    }
-    u64::MAX
-}
-
-/// The length of the ways across these edges.
-fn length_along(dual: &Dual, path: &[u32]) -> u64 {
-    let mut sum: u64 = 0;
-    for edge in path {
-        sum = sum.saturating_add(length_across(dual, *edge));
-    }
-    sum
-}
-
-/// Whether the distance of a face is that of the plain program, and its path as long.
-fn agrees(
-    alloc: Global,
-    dual: &Dual,
-    reach: &Distances,
-    face: u32,
-    least: u64,
-) -> Result<bool, AllocError> {
-    match reach.to(face) {
-        Some(length) => {
-            let path = reach.path(alloc, face)?;
-            Ok((length == least) & (length_along(dual, &path) == least))
-        }
-        None => Ok(least == u64::MAX),
-    }
-}
-
-/// Compares the distances from a face with those of the plain program.
-fn compare_from<R: Abort>(
-    rt: &R,
-    alloc: Global,
-    dual: &Dual,
-    from: u32,
-    reach: &mut Distances,
-) -> Result<(), Fail>
-    requires dual { CameFromDual dual.now }
-    requires from { from < dual.now.faces }
-{
-    distances(dual, from, reach)?;
-    let plain = plain_lengths(alloc, dual, from)?;
-    for face in 0..dual.faces {
-        let least = at(&plain, face);
-        assert!(rt; agrees(alloc, dual, reach, face, least)?, "{from} {face}");
-    }
-    Ok(())
-}
-
-/// Compares the distances over a grid from each of its faces, all sought in one memory.
-fn compare_grid<R: Abort>(
-    rt: &R,
-    alloc: Global,
-    seed: u64,
-    reach: &mut Distances,
-) -> Result<(), Fail> {
+/// Compares the parts of a grid with those of the plain program, for each two faces.
+fn compare_grid<R: Abort>(rt: &R, alloc: Global, seed: u64) -> Result<(), Fail> {
     let net = grid(alloc, seed)?;
     let dual = dual_of(alloc, &net)?;
-    for from in 0..dual.faces {
-        compare_from(rt, alloc, &dual, from, reach)?;
+    let plain = least_faces(alloc, &dual)?;
+    for f in 0..dual.faces {
+        for g in 0..dual.faces {
+            let one_part = part_of(&dual, f) == part_of(&dual, g);
+            assert_eq!(rt; one_part, at(&plain, f) == at(&plain, g), "{seed} {f} {g}");
+        }
     }
     Ok(())
 }
 
 #[test]
-fn least_lengths(rt: HostRuntime) -> Result<(), Fail> {
-    let mut reach = Distances::new(rt.alloc());
+fn parts_of_grids(rt: HostRuntime) -> Result<(), Fail> {
     for seed in 0..20u64 {
-        compare_grid(&rt, rt.alloc(), seed, &mut reach)?;
+        compare_grid(&rt, rt.alloc(), seed)?;
     }
     Ok(())
 }

@@ -33,16 +33,12 @@ fn made_and_taken_apart<L: Ledger, R: Abort>(
                 (family.tops(0), family.tops(1), family.tops(2)),
                 (set, set, set)
             );
-            assert_eq!(rt;
-                (family.value(set), family.load(0, 1), family.load(1, 2)),
-                (0, 4, 0)
-            );
+            assert_eq!(rt; (family.value(set), family.holds(set, 2)), (0, true));
             assert_eq!(rt; family.child_after(0), (1, 0, 1));
             assert_eq!(rt; family.child_after(1), (2, 1, 2));
             assert_eq!(rt; family.child_after(2), (0, 2, 0));
             assert_eq!(rt; family.parent(1), Some(set));
-            let members = family.members(alloc, set)?;
-            assert_eq!(rt; members.as_slice(), [0, 1, 2].as_slice());
+            assert_eq!(rt; family.members(set), [0, 1, 2].as_slice());
             family.expand(set, &mut steps);
             assert_eq!(rt; (family.tops(0), family.tops(1), family.tops(2)), (0, 1, 2));
             Ok(())
@@ -53,33 +49,7 @@ fn made_and_taken_apart<L: Ledger, R: Abort>(
                 (family.value(0), family.value(1), family.value(2)),
                 (4, 0, 0)
             );
-            assert_eq!(rt; (family.load(0, 1), family.load(1, 2)), (4, 0));
             Err(no_memory)
         }
     }
-}
-
-/// A set of three members with a value is a load of one of them and the fourth member, and not of two of its own.
-#[test]
-fn a_set_loads_its_border(rt: HostRuntime) -> Result<(), NoMemory> {
-    let loads = loads_of_a_set::<Brand>(rt.alloc(), Blank::new(1))?;
-    assert_eq!(rt; loads, (0, 6));
-    Ok(())
-}
-
-/// The load of two members of a set of value 6, and of one of them and a member that is not in it.
-fn loads_of_a_set<L: Ledger>(alloc: Global, blank: Blank) -> Result<(u64, u64), NoMemory>
-    requires name { blank.name ≡ L.name }
-    requires parts { blank.parts ≡ L.parts }
-    requires some { 0 < L.parts }
-{
-    let (book, share) = blank.open::<L>();
-    let mut steps = Steps::new(book, share);
-    let mut family = Family::new(alloc, 4)?;
-    let joins = [(0, 1), (1, 2), (2, 0)];
-    let set = family.shrink(alloc, &[0, 1, 2], &joins, &mut steps)?;
-    if family.value(set) == 0 {
-        family.raise(set, 6, &mut steps);
-    }
-    Ok((family.load(0, 1), family.load(0, 3)))
 }

@@ -1,4 +1,4 @@
-//! Tests of the crates that measure between odd faces, match them and pack cycles, a file for each crate.
+//! Tests of the crates that join faces, nest sets of them and pack cycles, a file for each crate.
 //!
 //! A crate with tests is proved once for itself and once with them, so these stand above what they test.
 #![tactic(auto)]

@@ -1,4 +1,4 @@
-use dpl_words::{Command, Line, ScriptError, UsageError, parse, script};
+use dpl_words::{Command, Line, ScriptError, UsageError, Work, parse, script};
 use std::alloc::Global;
 use std::test::Fail;
 
@@ -18,7 +18,10 @@ fn a_script_is_named(rt: HostRuntime) -> Result<(), Fail> {
         "edit --script=s --layer M --space 100 --overlap 20 --keep K",
     )?;
     match parse(alloc, words.as_slice())? {
-        Command::Edit { options, script } => {
+        Command::Layout {
+            options,
+            work: Work::Edit(script),
+        } => {
             assert_eq!(rt; options.layer().bytes(), b"M".as_slice());
             assert_eq!(rt; script.as_str(), "s");
         }

@@ -126,27 +126,3 @@ fn edits_at_the_end_of_a_long_strip(rt: HostRuntime) -> Result<(), Fail> {
     assert_eq!(rt; read.out.bytes(), b"yes cost 2560 bound 5120\n".as_slice());
     Ok(())
 }
-
-/// 2,050 boxes in a row, each close to its neighbours.
-const ROW: &[u8] =
-    b"DS 1; L M; B 100 100 50 50; DF; DS 2; C 1; C 1 T 150 0; DF; DS 3; C 2; C 2 T 300 0; DF; DS 4; C 3; C 3 T 600 0; DF;
-    DS 5; C 4; C 4 T 1200 0; DF; DS 6; C 5; C 5 T 2400 0; DF; DS 7; C 6; C 6 T 4800 0; DF; DS 8; C 7; C 7 T 9600 0; DF;
-    DS 9; C 8; C 8 T 19200 0; DF; DS 10; C 9; C 9 T 38400 0; DF; DS 11; C 10; C 10 T 76800 0; DF;
-    DS 12; C 11; C 11 T 153600 0; DF; C 12; C 2 T 307200 0; E";
-
-/// A box covers the row while a wire comes above it. Without the box the wire makes an odd triangle with each two
-/// neighbours, and the face around all of them is odd too: the removal passes a limit, and its line is none that names a box
-/// that is not there.
-#[test]
-fn a_removal_past_a_limit(rt: HostRuntime) -> Result<(), Fail> {
-    let script = b"add 0 0 614900 500\nadd 0 300 614900 500\nremove 0\n";
-    let ended = edited(rt.alloc(), ROW, script)?;
-    let limit = Status::Limit {
-        kind: 8,
-        count: 2_050,
-    };
-    assert_eq!(rt; ended.status, limit);
-    assert_eq!(rt; ended.err.bytes(), b"dpl: limit 8 count 2050\n".as_slice());
-    assert_eq!(rt; ended.out.bytes().len(), 0);
-    Ok(())
-}

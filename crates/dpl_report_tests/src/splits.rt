@@ -25,10 +25,6 @@ fn report(alloc: Global, text: &[u8], corner: u64, keep: &[u8]) -> Option<Report
     made(alloc, text, corner, keep)?.ok()
 }
 
-fn refusal(alloc: Global, text: &[u8]) -> Option<LayerError> {
-    made(alloc, text, 10, b"")?.err()
-}
-
 /// The counts of a report, its cost and bound, and how many stitches are broken, clashes are broken and edges are set
 /// aside.
 #[derive(Clone, Copy)]
@@ -286,23 +282,7 @@ fn too_far_in_commands(rt: HostRuntime) {
     assert_eq!(rt; refusal_of_cut_text(rt.alloc(), layout), Some(wanted));
 }
 
-/// A zigzag of 2,051 boxes between which 2,049 triangles stand. The face around them is odd too.
-#[test]
-fn too_many_odd_faces(rt: HostRuntime) {
-    let layout =
-        b"DS 1; L M; B 100 100 50 50; B 100 100 125 200; DF; DS 2; C 1; C 1 T 150 0; DF; DS 3; C 2; C \
-      2 T 300 0; DF; DS 4; C 3; C 3 T 600 0; DF; DS 5; C 4; C 4 T 1200 0; DF; DS 6; C 5; C 5 T \
-      2400 0; DF; DS 7; C 6; C 6 T 4800 0; DF; DS 8; C 7; C 7 T 9600 0; DF; DS 9; C 8; C 8 T 19200 \
-      0; DF; DS 10; C 9; C 9 T 38400 0; DF; DS 11; C 10; C 10 T 76800 0; DF; C 11; C 1 T 153600 0; \
-      L M; B 100 100 153800 50; E";
-    let wanted = LayerError::Limit {
-        kind: 8,
-        count: 2050,
-    };
-    assert_eq!(rt; refusal(rt.alloc(), layout), Some(wanted));
-}
-
-/// The same of 515 boxes and 513 triangles: the face around them is odd.
+/// A zigzag of 515 boxes between which 513 triangles stand: the face around them is odd.
 #[test]
 fn an_odd_number_of_triangles(rt: HostRuntime) -> Result<(), Fail> {
     let layout =
@@ -315,19 +295,19 @@ fn an_odd_number_of_triangles(rt: HostRuntime) -> Result<(), Fail> {
     Ok(())
 }
 
-/// The same of 2,050 boxes and 2,048 triangles, as many odd faces as one part may have.
+/// The same of 2,051 boxes and 2,049 triangles, all of one part.
 #[test]
-fn most_odd_faces(rt: HostRuntime) -> Result<(), Fail> {
+fn many_odd_faces(rt: HostRuntime) -> Result<(), Fail> {
     let layout =
         b"DS 1; L M; B 100 100 50 50; B 100 100 125 200; DF; DS 2; C 1; C 1 T 150 0; DF; DS 3; C 2; C \
       2 T 300 0; DF; DS 4; C 3; C 3 T 600 0; DF; DS 5; C 4; C 4 T 1200 0; DF; DS 6; C 5; C 5 T \
       2400 0; DF; DS 7; C 6; C 6 T 4800 0; DF; DS 8; C 7; C 7 T 9600 0; DF; DS 9; C 8; C 8 T 19200 \
       0; DF; DS 10; C 9; C 9 T 38400 0; DF; DS 11; C 10; C 10 T 76800 0; DF; C 11; C 1 T 153600 0; \
-      E";
+      L M; B 100 100 153800 50; E";
     let found = figures_of(rt.alloc(), layout, 10, b"")?;
     assert_eq!(rt;
         (found.clashes, found.cost, found.bound),
-        (4097, 10240, 20480)
+        (4099, 10250, 20500)
     );
     Ok(())
 }

@@ -1,5 +1,5 @@
 -- What is due for `check`: one answer at most, and the end of its work.
-use Rattle.std.proofs.Common.{◌≡◌, ℕ, List, ◌++◌, Option, Some, true, refl, ap, inl}
+use Rattle.std.proofs.Common.{◌≡◌, ℕ, List, ◌++◌, Option, Some, true, refl, ap}
 use Rattle.std.specs.Prelude.{Ok}
 use Rattle.dpl_options.specs.Options.{PlainOptions, AreOptions}
 use Rattle.dpl_layer.specs.Reasons.{FirstOf}
@@ -10,7 +10,7 @@ use Rattle.dpl_check.specs.declared.verdicts.Verdict.{Verdict}
 use Rattle.dpl_check.specs.declared.verdicts.Verdict.TheVariants.{Yes, No}
 use Rattle.dpl_check.proofs.GoodMaskLemmas.{yes_accepts}
 use Rattle.dpl_check.proofs.OnceLemmas.{verdict_not_refused, one_verdict}
-use Rattle.dpl_words.specs.Commands.{PlainCommand}
+use Rattle.dpl_words.specs.declared.command.Command.{Command}
 use Rattle.dpl_run.specs.declared.status.Status.{Status}
 use Rattle.dpl_run.specs.declared.status.Status.TheVariants.{Done, Rejected}
 use Rattle.dpl_run.specs.Inputs.{judges}
@@ -21,9 +21,9 @@ use Rattle.dpl_run.specs.Errors.{status_of}
 use Rattle.dpl_run.proofs.EndLemmas.{AllEnd, error_ends, refused_not_done}
 
 -- what is due for check ends the work of a command that judges
-pub check_ends : (c : PlainCommand) → judges c ≡ true → (o : PlainOptions) (text report : List ℕ) → AllEnd c (IsCheckDue o text report)
+pub check_ends : (c : Command) → judges c ≡ true → (o : PlainOptions) (text report : List ℕ) → AllEnd c (IsCheckDue o text report)
 check_ends c judging o text report _ _ (refused e r) =
-    error_ends c (FirstOf (layer_reasons o text)) (never_memory o text) (λ k n p. inl (layer_kind o text k n p)) e r
+    error_ends c (FirstOf (layer_reasons o text)) (never_memory o text) (layer_kind o text) e r
 check_ends c judging o text report _ _ (rejected reason place found wanted v) = (judging, refl)
 check_ends c judging o text report _ _ (accepted cost bound v) = tt
 

@@ -17,7 +17,7 @@ use Rattle.dpl_edit.specs.declared.errors.RemoveError.TheVariants as removal
 use Rattle.dpl_edit.specs.Contents.{content, boxes_without, content_reasons, HasBox, Refuses}
 use Rattle.dpl_edit.specs.Sessions.{State, IsBegun, IsEdited, RefusesRemoval}
 use Rattle.dpl_edit.proofs.RefusalLemmas.{content_kind, content_once}
-use Rattle.dpl_words.specs.Commands.{PlainCommand}
+use Rattle.dpl_words.specs.declared.command.Command.{Command}
 use Rattle.dpl_words.specs.declared.edits.Line.{Line}
 use Rattle.dpl_words.specs.declared.edits.Line.TheVariants.{Add, Remove}
 use Rattle.dpl_words.specs.declared.edits.ScriptError.{ScriptError}
@@ -26,7 +26,7 @@ use Rattle.dpl_words.specs.Scripts.{plain_line, IsScript, IsFirstBad}
 use Rattle.dpl_words.proofs.ScriptLemmas.{bad_once, script_free}
 use Rattle.dpl_run.specs.declared.status.Status.{Status}
 use Rattle.dpl_run.specs.declared.status.Status.TheVariants.{Done, Rejected, Usage, Layout, Limit, Script, ReadFault, WriteFault, NoMemory}
-use Rattle.dpl_run.specs.Inputs.{colours, follows}
+use Rattle.dpl_run.specs.Inputs.{follows}
 use Rattle.dpl_run.specs.due.Edit.{Edits, begun_with, edits_of, edited, edits_reasons, Reports, StopsAt, IsTaken, AreEditsDue, IsScriptDue, IsEditDue}
 use Rattle.dpl_run.specs.due.Edit.StopsAt.{missing, over}
 use Rattle.dpl_run.specs.due.Edit.IsScriptDue.{bad_line, applied}
@@ -34,7 +34,6 @@ use Rattle.dpl_run.specs.due.Edit.IsEditDue.{unread, too_much, begun}
 use Rattle.dpl_run.specs.Errors.{status_of, of_removal, of_script}
 use Rattle.dpl_run.specs.Telling.{IsWorked}
 use Rattle.dpl_run.proofs.EndLemmas.{AllEnd, Ends, error_ends}
-use Rattle.dpl_run.proofs.MadeLemmas.{work_limit}
 use Rattle.dpl_run.proofs.LineLemmas.{one_script, prims_same}
 
 -- ---- one answer at most
@@ -90,36 +89,36 @@ one_edit o text second _ _ _ _ (begun d is w a x due) (begun g also v b y other)
 
 -- ---- the end of the work
 
-over_ends : (c : PlainCommand) → colours c ≡ true → (s : Edits) (e : LayerError) → FirstOf (edits_reasons s) e → Ends c (status_of e) []
-over_ends c colouring s e r = by_kind e (content_kind s.options (content s.begun s.boxes) s.keep e r) where
-  by_kind : (e : LayerError) → HasKind ⊥ 8 e → Ends c (status_of e) []
-  by_kind (refusal.Limit k n) h = (work_limit c colouring k h, refl)
+over_ends : (c : Command) → (s : Edits) (e : LayerError) → FirstOf (edits_reasons s) e → Ends c (status_of e) []
+over_ends c s e r = by_kind e (content_kind s.options (content s.begun s.boxes) s.keep e r) where
+  by_kind : (e : LayerError) → HasKind ⊥ 7 e → Ends c (status_of e) []
+  by_kind (refusal.Limit k n) h = (h, refl)
   by_kind (refusal.Layout command what) h = absurd h
   by_kind refusal.NoMemory h = absurd h
 
-stop_ends : (c : PlainCommand) → colours c ≡ true → follows c ≡ true → (s : Edits) (n : ℕ) (l : Line) (a : Status) (x : List ℕ) → StopsAt s n l a x → Ends c a x
-stop_ends c colouring following s n l _ _ (missing p) = (following, refl)
-stop_ends c colouring following s n l _ _ (over e there p) = over_ends c colouring (edited l s) e p
+stop_ends : (c : Command) → follows c ≡ true → (s : Edits) (n : ℕ) (l : Line) (a : Status) (x : List ℕ) → StopsAt s n l a x → Ends c a x
+stop_ends c following s n l _ _ (missing p) = (following, refl)
+stop_ends c following s n l _ _ (over e there p) = over_ends c (edited l s) e p
 
-edits_end : (c : PlainCommand) → colours c ≡ true → follows c ≡ true
+edits_end : (c : Command) → follows c ≡ true
     → (ls : List Line) (s : Edits) (n : ℕ) (a : Status) (x : List ℕ) → AreEditsDue s n ls a x → Ends c a x
-edits_end c colouring following [] s n a x d = subst (λ z. Ends c z x) (sym d.0) tt
-edits_end c colouring following (l ∷ ls) s n a x (inl p) = stop_ends c colouring following s n l a x p
-edits_end c colouring following (l ∷ ls) s n a x (inr q) = edits_end c colouring following ls (edited l s) (n + 1) a x q.1
+edits_end c following [] s n a x d = subst (λ z. Ends c z x) (sym d.0) tt
+edits_end c following (l ∷ ls) s n a x (inl p) = stop_ends c following s n l a x p
+edits_end c following (l ∷ ls) s n a x (inr q) = edits_end c following ls (edited l s) (n + 1) a x q.1
 
-script_ends : (c : PlainCommand) → colours c ≡ true → follows c ≡ true
+script_ends : (c : Command) → follows c ≡ true
     → (s : Edits) (text : List ℕ) (a : Status) (x : List ℕ) → IsScriptDue s text a x → Ends c a x
-script_ends c colouring following s text _ _ (bad_line n b) = (following, refl)
-script_ends c colouring following s text _ _ (applied ls is a x d) = edits_end c colouring following ls s 1 a x d
+script_ends c following s text _ _ (bad_line n b) = (following, refl)
+script_ends c following s text _ _ (applied ls is a x d) = edits_end c following ls s 1 a x d
 
--- what is due for edit ends the work of a command that colours and follows a script
-pub edit_ends : (c : PlainCommand) → colours c ≡ true → follows c ≡ true → (o : PlainOptions) (text second : List ℕ) → AllEnd c (IsEditDue o text second)
-edit_ends c colouring following o text second _ _ (unread e r) =
+-- what is due for edit ends the work of a command that follows a script
+pub edit_ends : (c : Command) → follows c ≡ true → (o : PlainOptions) (text second : List ℕ) → AllEnd c (IsEditDue o text second)
+edit_ends c following o text second _ _ (unread e r) =
     let K : (f : LayerError) → FirstOf (drawing_reasons o text) f → HasKind (Unit {0}) 7 f =
     λ f q. first_has (HasKind (Unit {0}) 7) (drawing_reasons o text) f (drawing_kinds 7 (omega arith) o text) q in
-    error_ends c (FirstOf (drawing_reasons o text)) (K refusal.NoMemory) (λ k n p. inl (K (refusal.Limit k n) p)) e r
-edit_ends c colouring following o text second _ _ (too_much d is e p) = over_ends c colouring (begun_with o d) e p
-edit_ends c colouring following o text second _ _ (begun d is w a x due) = script_ends c colouring following (begun_with o d) second a x due
+    error_ends c (FirstOf (drawing_reasons o text)) (K refusal.NoMemory) (λ k n p. K (refusal.Limit k n) p) e r
+edit_ends c following o text second _ _ (too_much d is e p) = over_ends c (begun_with o d) e p
+edit_ends c following o text second _ _ (begun d is w a x due) = script_ends c following (begun_with o d) second a x due
 
 -- ---- a session
 

@@ -1,14 +1,17 @@
 -- What an answer means for every other pair of masks.
-use Rattle.std.proofs.Common.{◌≡◌, ◌∙◌, ℕ, List, [], ◌++◌, Option, Some, None, refl, ap, subst}
+use Rattle.std.proofs.Common.{◌≡◌, ℕ, List, ◌++◌, Option, Some, None, refl, ap, subst}
 use Rattle.std.specs.Prelude.{Ok}
 use Rattle.std.specs.Io.KnownBytes.{Appends}
 use Rattle.dpl_options.specs.Options.{PlainOptions}
 use Rattle.dpl_layer.specs.Reasons.{FirstOf}
 use Rattle.dpl_layer.proofs.TextLemmas.{on_layer}
 use Rattle.dpl_check.specs.Checked.{IsAcceptedOf}
-use Rattle.dpl_core.specs.Refusals.{split_reasons}
+use Rattle.dpl_layer.specs.Refusals.{layer_reasons}
 use Rattle.dpl_core.specs.Reports.{IsBalancedOfCells, IsBalancedSplit, IsRefinedSplit, IsReportOfCells, IsSplit}
-use Rattle.dpl_words.specs.Commands.{PlainCommand, split, check, balance, refine, asked_by}
+use Rattle.dpl_words.specs.Commands.{asked_by}
+use Rattle.dpl_words.specs.declared.command.Command.{Command}
+use Rattle.dpl_words.specs.declared.command.Command.TheVariants as asked
+use Rattle.dpl_words.specs.declared.work.Work.TheVariants.{Split, Check, Balance, Refine}
 use Rattle.dpl_run.specs.declared.status.Status.{Status}
 use Rattle.dpl_run.specs.declared.status.Status.TheVariants.{Done}
 use Rattle.dpl_run.specs.Answer.{Answers, DueOf, IsDue, IsDueFor, IsDueOf}
@@ -17,7 +20,7 @@ use Rattle.dpl_run.specs.Lines.{yes_line}
 use Rattle.dpl_run.proofs.EndLemmas.{refused_not_done}
 use Rattle.dpl_run.proofs.MadeLemmas.{made_done}
 use Rattle.dpl_run.proofs.CheckLemmas.{accepted_bound}
-use Rattle.dpl_run.proofs.RangeLemmas.{check_range}
+use Rattle.dpl_run.proofs.RangeLemmas.{layout_range}
 
 -- ---- what was written where the run is done
 
@@ -25,17 +28,17 @@ appended : (now : Option (List ℕ)) (taken output : List ℕ) → Appends (Some
 appended None taken output a = absurd a
 appended (Some x) taken output a = ap Some a
 
-due_for_done : (c : PlainCommand) (text second : List ℕ) (a : Status) (x : List ℕ) → IsDueFor c text second a x → a ≡ Done → DueOf c text second Done x
+due_for_done : (c : Command) (text second : List ℕ) (a : Status) (x : List ℕ) → IsDueFor c text second a x → a ≡ Done → DueOf c text second Done x
 due_for_done c text second _ _ (too_long e r) d = absurd (refused_not_done e d)
 due_for_done c text second _ _ (carried_out a x none d) e = subst (λ z. DueOf c text second z x) e d
 
 -- the output of a command that is done
-record Written (c : PlainCommand) (text second taken : List ℕ) (now : Option (List ℕ)) : Type 0 where
+record Written (c : Command) (text second taken : List ℕ) (now : Option (List ℕ)) : Type 0 where
   output : List ℕ
   is : now ≡ Some (taken ++ output)
   due : DueOf c text second Done output
 
-written : (words : List (List ℕ)) (c : PlainCommand) (text second taken : List ℕ) (now : Option (List ℕ)) → asked_by words ≡ Ok c
+written : (words : List (List ℕ)) (c : Command) (text second taken : List ℕ) (now : Option (List ℕ)) → asked_by words ≡ Ok c
     → Answers (IsDue words text second) (Some taken) now Done → Written c text second taken now
 written words c text second taken now e w =
     let due = subst (λ z. IsDueOf z text second Done w.output) e w.due in
@@ -56,32 +59,32 @@ as_split o text output p = record {
 }
 
 -- where a split is done, its text was written
-pub writes_split : (words : List (List ℕ)) (o : PlainOptions) (text second taken : List ℕ) (now : Option (List ℕ)) → asked_by words ≡ Ok (split o)
+pub writes_split : (words : List (List ℕ)) (o : PlainOptions) (text second taken : List ℕ) (now : Option (List ℕ)) → asked_by words ≡ Ok (asked.Layout o Split)
     → Answers (IsDue words text second) (Some taken) now Done → WasWritten (IsSplit o text) taken now
 writes_split words o text second taken now e a =
-    let w = written words (split o) text second taken now e a in
-    (w.output, w.is, made_done (FirstOf (split_reasons o text)) (IsSplit o text) Done w.output w.due refl)
+    let w = written words (asked.Layout o Split) text second taken now e a in
+    (w.output, w.is, made_done (FirstOf (layer_reasons o text)) (IsSplit o text) Done w.output w.due refl)
 
 -- where a balanced split is done, its text was written
-pub writes_balanced : (words : List (List ℕ)) (o : PlainOptions) (text second taken : List ℕ) (now : Option (List ℕ)) → asked_by words ≡ Ok (balance o)
+pub writes_balanced : (words : List (List ℕ)) (o : PlainOptions) (text second taken : List ℕ) (now : Option (List ℕ)) → asked_by words ≡ Ok (asked.Layout o Balance)
     → Answers (IsDue words text second) (Some taken) now Done → WasWritten (IsBalancedSplit o text) taken now
 writes_balanced words o text second taken now e a =
-    let w = written words (balance o) text second taken now e a in
-    (w.output, w.is, made_done (FirstOf (split_reasons o text)) (IsBalancedSplit o text) Done w.output w.due refl)
+    let w = written words (asked.Layout o Balance) text second taken now e a in
+    (w.output, w.is, made_done (FirstOf (layer_reasons o text)) (IsBalancedSplit o text) Done w.output w.due refl)
 
 -- where a refined split is done, its text was written
-pub writes_refined : (words : List (List ℕ)) (o : PlainOptions) (text second taken : List ℕ) (now : Option (List ℕ)) → asked_by words ≡ Ok (refine o)
+pub writes_refined : (words : List (List ℕ)) (o : PlainOptions) (text second taken : List ℕ) (now : Option (List ℕ)) → asked_by words ≡ Ok (asked.Layout o Refine)
     → Answers (IsDue words text second) (Some taken) now Done → WasWritten (IsRefinedSplit o text) taken now
 writes_refined words o text second taken now e a =
-    let w = written words (refine o) text second taken now e a in
-    (w.output, w.is, made_done (FirstOf (split_reasons o text)) (IsRefinedSplit o text) Done w.output w.due refl)
+    let w = written words (asked.Layout o Refine) text second taken now e a in
+    (w.output, w.is, made_done (FirstOf (layer_reasons o text)) (IsRefinedSplit o text) Done w.output w.due refl)
 
 -- ---- an accepted report
 
 -- where a check is done, what was written is a cost and a bound with which the report is accepted
 pub writes_bound : (words : List (List ℕ)) (o : PlainOptions) (name text report taken : List ℕ) (now : Option (List ℕ))
-    → asked_by words ≡ Ok (check o name) → Answers (IsDue words text report) (Some taken) now Done
+    → asked_by words ≡ Ok (asked.Layout o (Check name)) → Answers (IsDue words text report) (Some taken) now Done
     → (cost : ℕ) × (bound : ℕ) × (now ≡ Some (taken ++ yes_line cost bound)) × IsAcceptedOf o text report cost bound
 writes_bound words o name text report taken now e a =
-    let w = written words (check o name) text report taken now e a in
-    accepted_bound o text report taken now Done w.output (check_range words o name e) w.due refl w.is
+    let w = written words (asked.Layout o (Check name)) text report taken now e a in
+    accepted_bound o text report taken now Done w.output (layout_range words o (Check name) e) w.due refl w.is

@@ -1,43 +1,33 @@
 -- What is due for a command that makes an output: one answer at most, and the end of its work.
-use Rattle.std.proofs.Common.{◌≡◌, ◌⊎◌, ◌≤◌, ℕ, List, [], true, refl, sym, ap, subst, inl, inr, arith, Vec}
+use Rattle.std.proofs.Common.{◌≡◌, ◌⊎◌, ℕ, List, [], refl, sym, ap, subst, inl, inr, Vec}
 use Rattle.std.specs.Prelude.{Ok, Err, Result, IfOk, IfErr}
-use Rattle.std.proofs.lemmas.Bool.{cases_lt}
 use Rattle.dpl_options.specs.Options.{PlainOptions}
 use Rattle.dpl_layer.specs.declared.error.LayerError.{LayerError}
 use Rattle.dpl_layer.specs.declared.error.LayerError.TheVariants as refusal
 use Rattle.dpl_layer.specs.Reasons.{FirstOf}
 use Rattle.dpl_layer.proofs.ReasonLemmas.{IsOnce}
-use Rattle.dpl_core.specs.Refusals.{split_reasons}
-use Rattle.dpl_core.proofs.RefusalLemmas.{never_memory, split_kind}
-use Rattle.dpl_words.specs.Commands.{PlainCommand}
+use Rattle.dpl_layer.specs.Refusals.{layer_reasons}
+use Rattle.dpl_layer.proofs.RefusalLemmas.{layer_kind, never_memory}
+use Rattle.dpl_words.specs.declared.command.Command.{Command}
 use Rattle.dpl_run.specs.declared.status.Status.{Status}
 use Rattle.dpl_run.specs.declared.status.Status.TheVariants.{Done}
-use Rattle.dpl_run.specs.Inputs.{colours}
 use Rattle.dpl_run.specs.due.Made.{IsMade}
 use Rattle.dpl_run.specs.due.Made.IsMade.{refused, done}
 use Rattle.dpl_run.specs.Errors.{status_of}
 use Rattle.dpl_run.specs.Telling.{IsWorked}
 use Rattle.dpl_run.proofs.EndLemmas.{AllEnd, IsWorkLimit, error_ends, refused_worked, refused_not_done}
 
--- a limit up to that on odd faces is one of a command that colours
-pub work_limit : (c : PlainCommand) → colours c ≡ true → (k : ℕ) → (2 ≤ k) × (k ≤ 8) → IsWorkLimit c k
-work_limit c colouring k h = elim (cases_lt k 8) [
-  | inl l ↦ inl (h.0, omega (arith, l))
-  | inr l ↦ inr (omega (arith, h.1, l), colouring)
-]
-
 -- what is due ends the work, where no refusal is want of memory and each limit is one of the work
-pub made_ends : (c : PlainCommand) (R : LayerError → Type 0) (M : List ℕ → Type 0) → (R refusal.NoMemory → ⊥)
-    → ((k n : ℕ) → R (refusal.Limit k n) → IsWorkLimit c k) → AllEnd c (IsMade R M)
+pub made_ends : (c : Command) (R : LayerError → Type 0) (M : List ℕ → Type 0) → (R refusal.NoMemory → ⊥)
+    → ((k n : ℕ) → R (refusal.Limit k n) → IsWorkLimit k) → AllEnd c (IsMade R M)
 made_ends c R M some kinds _ _ (refused e r) = error_ends c R some kinds e r
 made_ends c R M some kinds _ _ (done output p free) = tt
 
 -- the same for a split
-pub split_ends : (c : PlainCommand) → colours c ≡ true
-    → (o : PlainOptions) (text : List ℕ) (M : List ℕ → Type 0)
-    → AllEnd c (IsMade (FirstOf (split_reasons o text)) M)
-split_ends c colouring o text M = made_ends c (FirstOf (split_reasons o text)) M (never_memory o text)
-    (λ k n r. work_limit c colouring k (split_kind o text k n r))
+pub split_ends : (c : Command) → (o : PlainOptions) (text : List ℕ) (M : List ℕ → Type 0)
+    → AllEnd c (IsMade (FirstOf (layer_reasons o text)) M)
+split_ends c o text M = made_ends c (FirstOf (layer_reasons o text)) M (never_memory o text)
+    (layer_kind o text)
 
 -- at most one status is due, where at most one refusal applies
 pub one_made : (R : LayerError → Type 0) (M : List ℕ → Type 0) → IsOnce R → (a b : Status) (x y : List ℕ) → IsMade R M a x → IsMade R M b y → a ≡ b

@@ -14,7 +14,9 @@ use Rattle.dpl_layer.specs.declared.drawing.Drawing.{Drawing}
 use Rattle.dpl_layer.specs.Drawings.{Cells, IsDrawingOf, drawing_reasons}
 use Rattle.dpl_layer.specs.Reasons.{FirstOf, NoneOf}
 use Rattle.dpl_core.specs.Reports.{IsReportOfCells}
-use Rattle.dpl_words.specs.Commands.{PlainCommand, check, edit}
+use Rattle.dpl_words.specs.declared.command.Command.{Command}
+use Rattle.dpl_words.specs.declared.command.Command.TheVariants as asked
+use Rattle.dpl_words.specs.declared.work.Work.TheVariants.{Check, Edit}
 use Rattle.dpl_words.specs.Scripts.{IsFirstBad}
 use Rattle.dpl_run.specs.declared.status.Status.TheVariants.{Limit, Script}
 use Rattle.dpl_run.specs.Inputs.{reads_layout}
@@ -27,17 +29,17 @@ use Rattle.dpl_run.specs.due.Edit.IsScriptDue.{bad_line}
 use Rattle.dpl_run.specs.due.Load.{loaded_line}
 use Rattle.dpl_run.proofs.ReadingLemmas.{long_layout, long_second, report_named, script_named}
 
-pub long_layout_due : (c : PlainCommand) (text second : List ℕ) → reads_layout c ≡ true → 16777216 < length text
+pub long_layout_due : (c : Command) (text second : List ℕ) → reads_layout c ≡ true → 16777216 < length text
     → IsDueFor c text second (Limit 1 16777217) []
 long_layout_due c text second r long = long_layout c text second r long
 
 pub long_report_due : (o : PlainOptions) (name text second : List ℕ) → length text ≤ 16777216 → 268435456 < length second
-    → IsDueFor (check o name) text second (Limit 9 268435457) []
-long_report_due o name text second short long = long_second (check o name) text second (report_named name) refl (λ r. short) long
+    → IsDueFor (asked.Layout o (Check name)) text second (Limit 9 268435457) []
+long_report_due o name text second short long = long_second (asked.Layout o (Check name)) text second (report_named name) refl (λ r. short) long
 
 pub long_script_due : (o : PlainOptions) (name text second : List ℕ) → length text ≤ 16777216 → 65536 < length second
-    → IsDueFor (edit o name) text second (Limit 10 65537) []
-long_script_due o name text second short long = long_second (edit o name) text second (script_named name) refl (λ r. short) long
+    → IsDueFor (asked.Layout o (Edit name)) text second (Limit 10 65537) []
+long_script_due o name text second short long = long_second (asked.Layout o (Edit name)) text second (script_named name) refl (λ r. short) long
 
 pub no_drawing_due : (o : PlainOptions) (text script : List ℕ) (e : LayerError) → FirstOf (drawing_reasons o text) e
     → IsEditDue o text script (status_of e) []

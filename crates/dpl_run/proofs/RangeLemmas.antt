@@ -9,10 +9,13 @@ use Rattle.dpl_lex.specs.Classes.{is_name_byte}
 use Rattle.dpl_lex.specs.Number.{digits_value}
 use Rattle.dpl_options.specs.Options.{PlainWeights, PlainOptions, AreWeights, IsSplitLayer, AreOptions}
 use Rattle.dpl_rules.specs.Readers.{◌>>=◌}
-use Rattle.dpl_words.specs.Commands.{PlainCommand, split, check, load, cross, edit, balance, refine, Values, asked_by, of_mode, of_given, of_values, plain_command_in, plain_options_in, plain_weights_in, layer_in, keep_in, corner_in, number_in, is_layer, is_number}
+use Rattle.dpl_words.specs.Commands.{Values, asked_by, of_mode, of_given, of_values, command_in, work_in, plain_options_in, plain_weights_in, layer_in, keep_in, corner_in, number_in, is_layer, is_number}
 use Rattle.dpl_words.specs.Grammar.{Text, Given, given_in, mode_of}
 use Rattle.dpl_words.specs.declared.mode.Mode.{Mode}
-use Rattle.dpl_words.specs.declared.mode.Mode.TheVariants.{Split, Check, Load, Cross, Edit, Balance, Refine}
+use Rattle.dpl_words.specs.declared.mode.Mode.TheVariants as word
+use Rattle.dpl_words.specs.declared.command.Command.{Command}
+use Rattle.dpl_words.specs.declared.command.Command.TheVariants as asked
+use Rattle.dpl_words.specs.declared.work.Work.{Work}
 
 -- ---- values
 
@@ -129,64 +132,50 @@ options_range value o e =
     (keep_in (value (codes "keep"))) o (layer_range (value (codes "layer"))) (given_range 1 MOST_SPACE (value (codes "space")))
     (given_range 1 MOST_SPACE (value (codes "overlap"))) (weights_range value) (keep_range (value (codes "keep"))) e
 
--- ---- the words of `check`
+-- ---- the words of work on a layout
 
-not_mapped : {A : Type 0} (f : A → PlainCommand) (c : PlainCommand) (x : Option A) → ((a : A) → f a ≢ c)
-    → option_map f x ≢ Some c
-not_mapped f c None never e = absurd (cc)
-not_mapped f c (Some a) never e = let same : f a ≡ c = cc in never a same
+not_loaded : (start rows columns : Option ℕ) (o : PlainOptions) (work : Work Text)
+    → (start >>= λ s. rows >>= λ r. columns >>= λ c. Some (asked.Load s r c)) ≢ Some (asked.Layout o work)
+not_loaded None rows columns o work e = absurd (cc)
+not_loaded (Some s) None columns o work e = absurd (cc)
+not_loaded (Some s) (Some r) None o work e = absurd (cc)
+not_loaded (Some s) (Some r) (Some c) o work e = absurd (cc)
 
-not_loaded : (start rows columns : Option ℕ) (o : PlainOptions) (name : Text)
-    → (start >>= λ s. rows >>= λ r. columns >>= λ c. Some (load s r c)) ≢ Some (check o name)
-not_loaded None rows columns o name e = absurd (cc)
-not_loaded (Some s) None columns o name e = absurd (cc)
-not_loaded (Some s) (Some r) None o name e = absurd (cc)
-not_loaded (Some s) (Some r) (Some c) o name e = absurd (cc)
+laid_out : (x : Option PlainOptions) (y : Option (Work Text)) (o : PlainOptions) (work : Work Text)
+    → ((p : PlainOptions) → x ≡ Some p → AreOptions p)
+    → (x >>= λ options. y >>= λ named. Some (asked.Layout options named)) ≡ Some (asked.Layout o work) → AreOptions o
+laid_out None y o work h e = absurd (cc)
+laid_out (Some p) None o work h e = absurd (cc)
+laid_out (Some p) (Some w) o work h e = let same : p ≡ o = cc in subst AreOptions same (h p refl)
 
-not_edited : (x : Option PlainOptions) (y : Option Text) (o : PlainOptions) (name : Text)
-    → (x >>= λ options. option_map (edit options) y) ≢ Some (check o name)
-not_edited None y o name e = absurd (cc)
-not_edited (Some p) y o name e = not_mapped (edit p) (check o name) y (λ a is. absurd (cc)) e
-
-checked : (x : Option PlainOptions) (y : Option Text) (o : PlainOptions) (name : Text) → ((p : PlainOptions) → x ≡ Some p → AreOptions p)
-    → (x >>= λ options. option_map (check options) y) ≡ Some (check o name) → AreOptions o
-checked None y o name h e = absurd (cc)
-checked (Some p) None o name h e = absurd (cc)
-checked (Some p) (Some n) o name h e = let same : p ≡ o = cc in subst AreOptions same (h p refl)
-
-in_mode : (mode : Mode) (value : Values) (o : PlainOptions) (name : Text) → plain_command_in mode value ≡ Some (check o name) → AreOptions o
-in_mode Split value o name e = absurd (not_mapped split (check o name) (plain_options_in value) (λ p is. absurd (cc)) e)
-in_mode Check value o name e = checked (plain_options_in value) (value (codes "report")) o name (options_range value) e
-in_mode Load value o name e =
+in_mode : (mode : Mode) (value : Values) (o : PlainOptions) (work : Work Text) → command_in mode value ≡ Some (asked.Layout o work) → AreOptions o
+in_mode (word.Layout asks) value o work e = laid_out (plain_options_in value) (work_in asks value) o work (options_range value) e
+in_mode word.Load value o work e =
     absurd (not_loaded (option_and_then (number_in 0 1000000000000) (value (codes "start")))
-    (option_and_then (number_in 1 200) (value (codes "rows"))) (option_and_then (number_in 1 200) (value (codes "columns"))) o name e)
-in_mode Cross value o name e = absurd (not_mapped cross (check o name) (plain_options_in value) (λ p is. absurd (cc)) e)
-in_mode Edit value o name e = absurd (not_edited (plain_options_in value) (value (codes "script")) o name e)
-in_mode Balance value o name e = absurd (not_mapped balance (check o name) (plain_options_in value) (λ p is. absurd (cc)) e)
-in_mode Refine value o name e = absurd (not_mapped refine (check o name) (plain_options_in value) (λ p is. absurd (cc)) e)
+    (option_and_then (number_in 1 200) (value (codes "rows"))) (option_and_then (number_in 1 200) (value (codes "columns"))) o work e)
 
-where_ok : (b : Bool) (x : Result PlainCommand ℕ) (kind : ℕ) (c : PlainCommand) → (if b then x else Err kind) ≡ Ok c → x ≡ Ok c
+where_ok : (b : Bool) (x : Result Command ℕ) (kind : ℕ) (c : Command) → (if b then x else Err kind) ≡ Ok c → x ≡ Ok c
 where_ok true x kind c e = e
 where_ok false x kind c e = absurd (cc)
 
-some_of : (x : Option PlainCommand) (kind : ℕ) (c : PlainCommand) → ok_or x kind ≡ Ok c → x ≡ Some c
+some_of : (x : Option Command) (kind : ℕ) (c : Command) → ok_or x kind ≡ Ok c → x ≡ Some c
 some_of None kind c e = absurd (cc)
 some_of (Some d) kind c e = let same : d ≡ c = cc in ap Some same
 
-of_values_range : (mode : Mode) (value : Values) (o : PlainOptions) (name : Text) → of_values mode value ≡ Ok (check o name) → AreOptions o
-of_values_range mode value o name e =
-    in_mode mode value o name (some_of (plain_command_in mode value) 3 (check o name)
-    (where_ok _ (ok_or (plain_command_in mode value) 3) 2 (check o name) e))
+of_values_range : (mode : Mode) (value : Values) (o : PlainOptions) (work : Work Text) → of_values mode value ≡ Ok (asked.Layout o work) → AreOptions o
+of_values_range mode value o work e =
+    in_mode mode value o work (some_of (command_in mode value) 3 (asked.Layout o work)
+    (where_ok _ (ok_or (command_in mode value) 3) 2 (asked.Layout o work) e))
 
-of_given_range : (mode : Mode) (gs : Option (List Given)) (o : PlainOptions) (name : Text) → of_given mode gs ≡ Ok (check o name) → AreOptions o
-of_given_range mode None o name e = absurd (cc)
-of_given_range mode (Some gs) o name e = of_values_range mode _ o name (where_ok _ (of_values mode _) 1 (check o name) e)
+of_given_range : (mode : Mode) (gs : Option (List Given)) (o : PlainOptions) (work : Work Text) → of_given mode gs ≡ Ok (asked.Layout o work) → AreOptions o
+of_given_range mode None o work e = absurd (cc)
+of_given_range mode (Some gs) o work e = of_values_range mode _ o work (where_ok _ (of_values mode _) 1 (asked.Layout o work) e)
 
-of_mode_range : (mode : Option Mode) (words : List Text) (o : PlainOptions) (name : Text) → of_mode mode words ≡ Ok (check o name) → AreOptions o
-of_mode_range None words o name e = absurd (cc)
-of_mode_range (Some mode) words o name e = of_given_range mode (given_in None words) o name e
+of_mode_range : (mode : Option Mode) (words : List Text) (o : PlainOptions) (work : Work Text) → of_mode mode words ≡ Ok (asked.Layout o work) → AreOptions o
+of_mode_range None words o work e = absurd (cc)
+of_mode_range (Some mode) words o work e = of_given_range mode (given_in None words) o work e
 
--- the options of a check are in their ranges
-pub check_range : (words : List Text) (o : PlainOptions) (name : Text) → asked_by words ≡ Ok (check o name) → AreOptions o
-check_range [] o name e = absurd (cc)
-check_range (word ∷ words) o name e = of_mode_range (mode_of word) words o name e
+-- the options of work on a layout are in their ranges
+pub layout_range : (words : List Text) (o : PlainOptions) (work : Work Text) → asked_by words ≡ Ok (asked.Layout o work) → AreOptions o
+layout_range [] o work e = absurd (cc)
+layout_range (first ∷ words) o work e = of_mode_range (mode_of first) words o work e

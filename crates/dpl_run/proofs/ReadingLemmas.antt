@@ -7,7 +7,9 @@ use Rattle.std.specs.Io.KnownBytes.{Consumes, IsAtEnd}
 use Rattle.dpl_ext.specs.Device.{Seen, Texts, Rose, RoseBy}
 use Rattle.dpl_ext.specs.Reading.{IsWhole}
 use Rattle.dpl_gen.specs.Layout.{layout}
-use Rattle.dpl_words.specs.Commands.{PlainCommand, split, check, load, cross, edit, balance, refine}
+use Rattle.dpl_words.specs.declared.command.Command.{Command}
+use Rattle.dpl_words.specs.declared.command.Command.TheVariants as asked
+use Rattle.dpl_words.specs.declared.work.Work.TheVariants.{Split, Check, Cross, Edit, Balance, Refine}
 use Rattle.dpl_layer.specs.Errors.{passed}
 use Rattle.dpl_layer.specs.Reasons.{NoneOf, IsPassed}
 use Rattle.dpl_layer.proofs.ReasonLemmas.{Reason, first, later, no_first, none_cons}
@@ -71,7 +73,7 @@ abbrev pub script_named : List ℕ → Opened
 script_named name = record { name = name; counted = ScriptBytes }
 
 -- texts within their limits refuse nothing
-bytes_free : (c : PlainCommand) (text second : List ℕ) → IsShort (reads_layout c) text → IsSmall (opens c) second → NoneOf (bytes_reasons c text second)
+bytes_free : (c : Command) (text second : List ℕ) → IsShort (reads_layout c) text → IsSmall (opens c) second → NoneOf (bytes_reasons c text second)
 bytes_free c text second short small =
     let L : Reason = IsPassed LayoutBytes ((reads_layout c ≡ true) × (16777216 < length text)) in
     none_cons L (IsOpenedLong (opens c) second ∷ []) (λ e r. let few = short r.0.0 in let many = r.0.1 in omega (arith, few, many))
@@ -84,13 +86,13 @@ bytes_free c text second short small =
           omega (arith, few, many)
 
 -- a layout that is too long is refused
-pub long_layout : (c : PlainCommand) (text second : List ℕ) → reads_layout c ≡ true → 16777216 < length text → IsDueFor c text second (Limit 1 16777217) []
+pub long_layout : (c : Command) (text second : List ℕ) → reads_layout c ≡ true → 16777216 < length text → IsDueFor c text second (Limit 1 16777217) []
 long_layout c text second r long = too_long (passed LayoutBytes)
     (first (IsPassed LayoutBytes ((reads_layout c ≡ true) × (16777216 < length text))) (IsOpenedLong (opens c) second ∷ [])
     (passed LayoutBytes) ((r, long), refl))
 
 -- and so is a text that is opened
-pub long_second : (c : PlainCommand) (text second : List ℕ) (o : Opened) → opens c ≡ Some o
+pub long_second : (c : Command) (text second : List ℕ) (o : Opened) → opens c ≡ Some o
     → IsShort (reads_layout c) text → most_of o.counted < length second
     → IsDueFor c text second (Limit (number_of o.counted) (most_of o.counted + 1)) []
 long_second c text second o is short long = too_long (passed o.counted)
@@ -99,18 +101,18 @@ long_second c text second o is short long = too_long (passed o.counted)
     (first (IsOpenedLong (opens c) second) [] (passed o.counted) (o, is, (long, refl))))
 
 -- what a command does not read makes no difference
-same_due : (c : PlainCommand) (text bytes second others : List ℕ) → (reads_layout c ≡ true → text ≡ bytes) → ((p : Opened) → opens c ≡ Some p → second ≡ others)
+same_due : (c : Command) (text bytes second others : List ℕ) → (reads_layout c ≡ true → text ≡ bytes) → ((p : Opened) → opens c ≡ Some p → second ≡ others)
     → (a : Status) (x : List ℕ) → DueOf c bytes others a x → DueOf c text second a x
-same_due (split options) text bytes second others e f a x d = subst (λ z. DueOf (split options) z second a x) (sym (e refl)) d
-same_due (balance options) text bytes second others e f a x d = subst (λ z. DueOf (balance options) z second a x) (sym (e refl)) d
-same_due (refine options) text bytes second others e f a x d = subst (λ z. DueOf (refine options) z second a x) (sym (e refl)) d
-same_due (cross options) text bytes second others e f a x d = subst (λ z. DueOf (cross options) z second a x) (sym (e refl)) d
-same_due (load start rows columns) text bytes second others e f a x d = d
-same_due (check options name) text bytes second others e f a x d =
-    subst (λ z. DueOf (check options name) z second a x) (sym (e refl))
-    (subst (λ z. DueOf (check options name) bytes z a x) (sym (f (report_named name) refl)) d)
-same_due (edit options name) text bytes second others e f a x d =
-    subst (λ z. DueOf (edit options name) z second a x) (sym (e refl)) (subst (λ z. DueOf (edit options name) bytes z a x) (sym (f (script_named name) refl)) d)
+same_due (asked.Layout options Split) text bytes second others e f a x d = subst (λ z. DueOf (asked.Layout options Split) z second a x) (sym (e refl)) d
+same_due (asked.Layout options Balance) text bytes second others e f a x d = subst (λ z. DueOf (asked.Layout options Balance) z second a x) (sym (e refl)) d
+same_due (asked.Layout options Refine) text bytes second others e f a x d = subst (λ z. DueOf (asked.Layout options Refine) z second a x) (sym (e refl)) d
+same_due (asked.Layout options Cross) text bytes second others e f a x d = subst (λ z. DueOf (asked.Layout options Cross) z second a x) (sym (e refl)) d
+same_due (asked.Load start rows columns) text bytes second others e f a x d = d
+same_due (asked.Layout options (Check name)) text bytes second others e f a x d =
+    subst (λ z. DueOf (asked.Layout options (Check name)) z second a x) (sym (e refl))
+    (subst (λ z. DueOf (asked.Layout options (Check name)) bytes z a x) (sym (f (report_named name) refl)) d)
+same_due (asked.Layout options (Edit name)) text bytes second others e f a x d =
+    subst (λ z. DueOf (asked.Layout options (Edit name)) z second a x) (sym (e refl)) (subst (λ z. DueOf (asked.Layout options (Edit name)) bytes z a x) (sym (f (script_named name) refl)) d)
 
 free_map : (Due Other : Status → List ℕ → Type 0) → ((a : Status) (x : List ℕ) → Due a x → Other a x)
     → (a : Status) (x : List ℕ) → IsDueOrFree Due a x → IsDueOrFree Other a x
@@ -125,7 +127,7 @@ free_map Due Other f WriteFault x p = f WriteFault x p
 free_map Due Other f NoMemory x p = p
 
 -- the texts were read whole, and the command was carried out
-pub carried_due : (c : PlainCommand) (layout layout_now : Seen) (texts : Option Texts) (bytes others text second : List ℕ) (a : Status) (x : List ℕ)
+pub carried_due : (c : Command) (layout layout_now : Seen) (texts : Option Texts) (bytes others text second : List ℕ) (a : Status) (x : List ℕ)
     → (reads_layout c ≡ true → IsWhole layout layout_now bytes 16777216) → IsSecondRead (opens c) texts others
     → IsSmall (opens c) others → IsWorked (DueOf c bytes others) a x
     → IsLayoutTold (reads_layout c) layout.left text × IsSecondTold (opens c) texts second
@@ -160,11 +162,11 @@ stops_at Due before now text kind most (Script line k) x w told none f = absurd 
 stops_at Due before now text kind most WriteFault x w told none f = absurd w
 
 -- why the layout of a command was not read whole
-abbrev StopsLayout : PlainCommand → Seen → Seen → Status → Type 0
+abbrev StopsLayout : Command → Seen → Seen → Status → Type 0
 StopsLayout c before now s = (reads_layout c ≡ true) × StopsReading before now 1 16777216 s
 
 -- where a layout stops the reading, its status is due or free
-pub layout_due : (c : PlainCommand) (before now : Seen) (text second : List ℕ) (s t : Status) (x : List ℕ)
+pub layout_due : (c : Command) (before now : Seen) (text second : List ℕ) (s t : Status) (x : List ℕ)
     → StopsLayout c before now s → t ≡ s → x ≡ [] → IsLayoutTold (reads_layout c) before.left text
     → IsDueOrFree (IsDueFor c text second) t x
 layout_due c before now text second s t x w e none told =
@@ -177,23 +179,23 @@ fault_where true before now e r = r
 fault_where false before now e r = absurd (cc)
 
 -- a failed read of the layout is its fault
-pub layout_fault : (c : PlainCommand) (before now second second_now : Seen) (s t : Status)
+pub layout_fault : (c : Command) (before now second second_now : Seen) (s t : Status)
     → StopsLayout c before now s → t ≡ s → t ≡ ReadFault → IsReadFault (Ok c) before now second second_now
 layout_fault c before now second second_now s t w e f =
     inl (fault_where (reads_layout c) before now w.0 (subst (StopsReading before now 1 16777216) (sym e ∙ f) w.1))
 
 -- where limit 1 is passed, one byte more of the layout was read than is taken
-pub layout_limit : (c : PlainCommand) (before now : Seen) (s t : Status) (count : ℕ) → StopsLayout c before now s →
+pub layout_limit : (c : Command) (before now : Seen) (s t : Status) (count : ℕ) → StopsLayout c before now s →
     t ≡ s → t ≡ Limit 1 count → PassesBytes 16777217 count before now
 layout_limit c before now s t count w e f = let p = subst (StopsReading before now 1 16777216) (sym e ∙ f) w.1 in (p.1, p.2)
 
 -- a layout passes no limit of reports
-pub layout_no_limit : (c : PlainCommand) (before now : Seen) (s t : Status) (count : ℕ) (P : Type 0)
+pub layout_no_limit : (c : Command) (before now : Seen) (s t : Status) (count : ℕ) (P : Type 0)
     → StopsLayout c before now s → t ≡ s → t ≡ Limit 9 count → P
 layout_no_limit c before now s t count P w e f = let p = subst (StopsReading before now 1 16777216) (sym e ∙ f) w.1 in absurd (omega (arith, p.0))
 
 -- a layout passes no limit of scripts
-pub layout_no_script : (c : PlainCommand) (before now : Seen) (s t : Status) (count : ℕ) (P : Type 0)
+pub layout_no_script : (c : Command) (before now : Seen) (s t : Status) (count : ℕ) (P : Type 0)
     → StopsLayout c before now s → t ≡ s → t ≡ Limit 10 count → P
 layout_no_script c before now s t count P w e f = let p = subst (StopsReading before now 1 16777216) (sym e ∙ f) w.1 in absurd (omega (arith, p.0))
 
@@ -214,10 +216,10 @@ reading_bare before now kind most (Script line k) x w none = none
 reading_bare before now kind most WriteFault x w none = w
 
 -- nothing is written where a layout stops the reading
-pub layout_bare : (c : PlainCommand) (before now : Seen) (s t : Status) (x : List ℕ) → StopsLayout c before now s → t ≡ s → x ≡ [] → IsBare t x
+pub layout_bare : (c : Command) (before now : Seen) (s t : Status) (x : List ℕ) → StopsLayout c before now s → t ≡ s → x ≡ [] → IsBare t x
 layout_bare c before now s t x w e none = subst (λ z. IsBare z x) (sym e) (reading_bare before now 1 16777216 s x w.1 none)
 
-reading_status : (c : PlainCommand) (before now : Seen) (s : Status) → reads_layout c ≡ true → StopsReading before now 1 16777216 s → IsStatusOf (Ok c) s
+reading_status : (c : Command) (before now : Seen) (s : Status) → reads_layout c ≡ true → StopsReading before now 1 16777216 s → IsStatusOf (Ok c) s
 reading_status c before now ReadFault e w = tt
 reading_status c before now NoMemory e w = tt
 reading_status c before now (Limit k count) e w = inl (w.0, e)
@@ -229,7 +231,7 @@ reading_status c before now (Script line k) e w = absurd w
 reading_status c before now WriteFault e w = tt
 
 -- where a layout stops the reading, the status is one of the command
-pub layout_status : (c : PlainCommand) (before now : Seen) (s t : Status) → StopsLayout c before now s → t ≡ s → IsStatusOf (Ok c) t
+pub layout_status : (c : Command) (before now : Seen) (s t : Status) → StopsLayout c before now s → t ≡ s → IsStatusOf (Ok c) t
 layout_status c before now s t w e = subst (IsStatusOf (Ok c)) (sym e) (reading_status c before now s w.0 w.1)
 
 -- ---- the second text was not read whole
@@ -251,7 +253,7 @@ second_at Due o before now texts second (Rejected reason place found wanted) x w
 second_at Due o before now texts second (Script line k) x w told none f = absurd w
 second_at Due o before now texts second WriteFault x w told none f = absurd w
 
-opening_at : (c : PlainCommand) (o : Option Opened) → opens c ≡ o
+opening_at : (c : Command) (o : Option Opened) → opens c ≡ o
     → (before now : Seen) (texts : Option Texts) (text second : List ℕ) (s : Status) (x : List ℕ)
     → StopsOpening o before now texts s → IsShort (reads_layout c) text → IsSecondTold o texts second → x ≡ []
     → IsDueOrFree (IsDueFor c text second) s x
@@ -260,7 +262,7 @@ opening_at c (Some o) is before now texts text second s x w short told none =
     second_at (IsDueFor c text second) o before now texts second s x w told none (λ long. long_second c text second o is short long)
 
 -- where the second text stops the reading, its status is due or free
-pub second_due : (c : PlainCommand) (layout layout_now before now : Seen) (texts : Option Texts) (bytes text second : List ℕ) (s t : Status) (x : List ℕ)
+pub second_due : (c : Command) (layout layout_now before now : Seen) (texts : Option Texts) (bytes text second : List ℕ) (s t : Status) (x : List ℕ)
     → (reads_layout c ≡ true → IsWhole layout layout_now bytes 16777216) → StopsOpening (opens c) before now texts s → t ≡ s → x ≡ []
     → IsLayoutTold (reads_layout c) layout.left text × IsSecondTold (opens c) texts second → IsDueOrFree (IsDueFor c text second) t x
 second_due c layout layout_now before now texts bytes text second s t x whole w e none told =
@@ -272,21 +274,21 @@ opening_fault None before now texts w = w
 opening_fault (Some o) before now texts w = w
 
 -- a failed read of the second text is its fault
-pub second_fault : (c : PlainCommand) (layout layout_now before now : Seen) (texts : Option Texts) (s t : Status)
+pub second_fault : (c : Command) (layout layout_now before now : Seen) (texts : Option Texts) (s t : Status)
     → StopsOpening (opens c) before now texts s → t ≡ s → t ≡ ReadFault
     → IsReadFault (Ok c) layout layout_now before now
 second_fault c layout layout_now before now texts s t w e f =
     inr (opening_fault (opens c) before now texts (subst (StopsOpening (opens c) before now texts) (sym e ∙ f) w))
 
 -- what is opened is a report or a script
-counted_is : (c : PlainCommand) (o : Opened) → opens c ≡ Some o → (o.counted ≡ ReportBytes) ⊎ (o.counted ≡ ScriptBytes)
-counted_is (split options) o e = absurd (cc)
-counted_is (balance options) o e = absurd (cc)
-counted_is (refine options) o e = absurd (cc)
-counted_is (cross options) o e = absurd (cc)
-counted_is (load start rows columns) o e = absurd (cc)
-counted_is (check options name) o e = let a : report_named name ≡ o = cc in inl (ap (λ z. z.counted) (sym a))
-counted_is (edit options name) o e = let a : script_named name ≡ o = cc in inr (ap (λ z. z.counted) (sym a))
+counted_is : (c : Command) (o : Opened) → opens c ≡ Some o → (o.counted ≡ ReportBytes) ⊎ (o.counted ≡ ScriptBytes)
+counted_is (asked.Layout options Split) o e = absurd (cc)
+counted_is (asked.Layout options Balance) o e = absurd (cc)
+counted_is (asked.Layout options Refine) o e = absurd (cc)
+counted_is (asked.Layout options Cross) o e = absurd (cc)
+counted_is (asked.Load start rows columns) o e = absurd (cc)
+counted_is (asked.Layout options (Check name)) o e = let a : report_named name ≡ o = cc in inl (ap (λ z. z.counted) (sym a))
+counted_is (asked.Layout options (Edit name)) o e = let a : script_named name ≡ o = cc in inr (ap (λ z. z.counted) (sym a))
 
 -- so its limit is the one or the other
 abbrev PassesOpened : ℕ → ℕ → Seen → Seen → Type 0
@@ -304,14 +306,14 @@ opened_limit o before now texts k n (inr r) w =
     let most : most_of o.counted ≡ 65536 = ap most_of r in
     inr (w.0 ∙ kind, subst (λ z. (n ≡ z + 1) × RoseBy (z + 1) before.given now.given) most (w.1, w.2))
 
-opening_limit : (c : PlainCommand) (o : Option Opened) → opens c ≡ o
+opening_limit : (c : Command) (o : Option Opened) → opens c ≡ o
     → (before now : Seen) (texts : Option Texts) (k n : ℕ) → StopsOpening o before now texts (Limit k n)
     → PassesOpened k n before now
 opening_limit c None is before now texts k n w = absurd w
 opening_limit c (Some o) is before now texts k n w = opened_limit o before now texts k n (counted_is c o is) w
 
 -- the status is that of a text that is opened and was not read whole
-stopped_limit : (c : PlainCommand) (before now : Seen) (texts : Option Texts) (s t : Status) (k count : ℕ)
+stopped_limit : (c : Command) (before now : Seen) (texts : Option Texts) (s t : Status) (k count : ℕ)
     → StopsOpening (opens c) before now texts s → t ≡ s → t ≡ Limit k count → PassesOpened k count before now
 stopped_limit c before now texts s t k count w e f = opening_limit c (opens c) refl before now texts k count
     (subst (StopsOpening (opens c) before now texts) (sym e ∙ f) w)
@@ -329,19 +331,19 @@ no_limit_of_bytes count before now (inl p) = omega (arith, p.0)
 no_limit_of_bytes count before now (inr p) = omega (arith, p.0)
 
 -- where limit 9 is passed, one byte more of the report was read than is taken
-pub second_limit : (c : PlainCommand) (before now : Seen) (texts : Option Texts) (s t : Status) (count : ℕ)
+pub second_limit : (c : Command) (before now : Seen) (texts : Option Texts) (s t : Status) (count : ℕ)
     → StopsOpening (opens c) before now texts s → t ≡ s → t ≡ Limit 9 count
     → PassesBytes 268435457 count before now
 second_limit c before now texts s t count w e f = limit_of_report count before now (stopped_limit c before now texts s t 9 count w e f)
 
 -- where limit 10 is passed, one byte more of the script was read than is taken
-pub second_script : (c : PlainCommand) (before now : Seen) (texts : Option Texts) (s t : Status) (count : ℕ)
+pub second_script : (c : Command) (before now : Seen) (texts : Option Texts) (s t : Status) (count : ℕ)
     → StopsOpening (opens c) before now texts s → t ≡ s → t ≡ Limit 10 count
     → PassesBytes 65537 count before now
 second_script c before now texts s t count w e f = limit_of_script count before now (stopped_limit c before now texts s t 10 count w e f)
 
 -- a second text passes no limit of layouts
-pub second_no_limit : (c : PlainCommand) (before now : Seen) (texts : Option Texts) (s t : Status) (count : ℕ) (P : Type 0)
+pub second_no_limit : (c : Command) (before now : Seen) (texts : Option Texts) (s t : Status) (count : ℕ) (P : Type 0)
     → StopsOpening (opens c) before now texts s → t ≡ s → t ≡ Limit 1 count → P
 second_no_limit c before now texts s t count P w e f = absurd (no_limit_of_bytes count before now (stopped_limit c before now texts s t 1 count w e f))
 
@@ -359,11 +361,11 @@ opening_bare (Some o) before now texts (Script line k) x w none = none
 opening_bare (Some o) before now texts WriteFault x w none = w
 
 -- nothing is written where the second text stops the reading
-pub second_bare : (c : PlainCommand) (before now : Seen) (texts : Option Texts) (s t : Status) (x : List ℕ)
+pub second_bare : (c : Command) (before now : Seen) (texts : Option Texts) (s t : Status) (x : List ℕ)
     → StopsOpening (opens c) before now texts s → t ≡ s → x ≡ [] → IsBare t x
 second_bare c before now texts s t x w e none = subst (λ z. IsBare z x) (sym e) (opening_bare (opens c) before now texts s x w none)
 
-opening_status : (c : PlainCommand) (o : Option Opened) → opens c ≡ o
+opening_status : (c : Command) (o : Option Opened) → opens c ≡ o
     → (before now : Seen) (texts : Option Texts) (s : Status) → StopsOpening o before now texts s
     → IsStatusOf (Ok c) s
 opening_status c None is before now texts s w = absurd w
@@ -378,7 +380,7 @@ opening_status c (Some o) is before now texts (Script line k) w = absurd w
 opening_status c (Some o) is before now texts WriteFault w = tt
 
 -- where the second text stops the reading, the status is one of the command
-pub second_status : (c : PlainCommand) (before now : Seen) (texts : Option Texts) (s t : Status)
+pub second_status : (c : Command) (before now : Seen) (texts : Option Texts) (s t : Status)
     → StopsOpening (opens c) before now texts s → t ≡ s → IsStatusOf (Ok c) t
 second_status c before now texts s t w e = subst (IsStatusOf (Ok c)) (sym e) (opening_status c (opens c) refl before now texts s w)
 

@@ -18,13 +18,14 @@ use Rattle.dpl_layer.specs.Reasons.{FirstOf, NoneOf, IsOver, IsPassed}
 use Rattle.dpl_layer.specs.Drawings.{HasFault, PassesLimit, drawing_reasons, kept_of}
 use Rattle.dpl_layer.specs.Refusals.{cells_reasons, layer_reasons}
 use Rattle.dpl_layer.proofs.ReasonLemmas.{Reason, IsFree, first, later, no_first, none_cons, in_front}
-use Rattle.dpl_core.specs.Refusals.{report_reasons, split_reasons}
-use Rattle.dpl_words.specs.Commands.{PlainCommand, split, check, load, cross, edit, balance, refine}
+use Rattle.dpl_words.specs.declared.command.Command.{Command}
+use Rattle.dpl_words.specs.declared.command.Command.TheVariants as asked
+use Rattle.dpl_words.specs.declared.work.Work.TheVariants.{Split, Check, Cross, Edit, Balance, Refine}
 use Rattle.dpl_run.specs.declared.status.Status.{Status}
 use Rattle.dpl_run.specs.declared.status.Status.TheVariants.{Usage}
 use Rattle.dpl_run.specs.Inputs.{Opened, opens, reads_layout}
 use Rattle.dpl_run.specs.Errors.{status_of}
-use Rattle.dpl_run.specs.Answer.{DueOf, IsDueFor, IsDueOf, IsOpenedLong, bytes_reasons}
+use Rattle.dpl_run.specs.Answer.{DueOf, IsDueOf, IsOpenedLong, bytes_reasons}
 use Rattle.dpl_run.specs.Answer.IsDueFor.{too_long, carried_out}
 use Rattle.dpl_run.specs.Deciding.{GoByCells, drawn_by}
 use Rattle.dpl_run.specs.due.Made.IsMade.{refused as made}
@@ -103,27 +104,23 @@ drawn o text =
 
 -- ---- what is due
 
-some_made : (o : PlainOptions) (text : List ℕ) (e : LayerError) → FirstOf (drawing_reasons o text) e → FirstOf (split_reasons o text) e
-some_made o text e r =
-    in_front (drawing_reasons o text) (report_reasons o (is_cell (primitives_of o.layer text)) (is_cell (kept_of o.keep text))) e r
-
 some_layer : (o : PlainOptions) (text : List ℕ) (e : LayerError) → FirstOf (drawing_reasons o text) e → FirstOf (layer_reasons o text) e
 some_layer o text e r =
     in_front (drawing_reasons o text) (cells_reasons o (is_cell (primitives_of o.layer text)) (is_cell (kept_of o.keep text))) e r
 
 -- a refusal is due, or the layout is drawn
-abbrev IsSome : PlainCommand → List ℕ → List ℕ → Type 0
+abbrev IsSome : Command → List ℕ → List ℕ → Type 0
 IsSome c text second = ((e : LayerError) × DueOf c text second (status_of e) [])
     ⊎ IfSome (drawn_by c) (λ o. NoneOf (drawing_reasons o text))
 
-some_of : (c : PlainCommand) (text second : List ℕ) → IsSome c text second
-some_of (split o) text second = elim (drawn o text) [ inl p ↦ inl (p.0, made p.0 (some_made o text p.0 p.1)) | inr none ↦ inr none ]
-some_of (check o name) text second = elim (drawn o text) [ inl p ↦ inl (p.0, judged p.0 (some_layer o text p.0 p.1)) | inr none ↦ inr none ]
-some_of (load start rows columns) text second = inr tt
-some_of (cross o) text second = elim (drawn o text) [ inl p ↦ inl (p.0, made p.0 (some_layer o text p.0 p.1)) | inr none ↦ inr none ]
-some_of (edit o name) text second = elim (drawn o text) [ inl p ↦ inl (p.0, unread p.0 p.1) | inr none ↦ inr none ]
-some_of (balance o) text second = elim (drawn o text) [ inl p ↦ inl (p.0, made p.0 (some_made o text p.0 p.1)) | inr none ↦ inr none ]
-some_of (refine o) text second = elim (drawn o text) [ inl p ↦ inl (p.0, made p.0 (some_made o text p.0 p.1)) | inr none ↦ inr none ]
+some_of : (c : Command) (text second : List ℕ) → IsSome c text second
+some_of (asked.Layout o Split) text second = elim (drawn o text) [ inl p ↦ inl (p.0, made p.0 (some_layer o text p.0 p.1)) | inr none ↦ inr none ]
+some_of (asked.Layout o (Check name)) text second = elim (drawn o text) [ inl p ↦ inl (p.0, judged p.0 (some_layer o text p.0 p.1)) | inr none ↦ inr none ]
+some_of (asked.Load start rows columns) text second = inr tt
+some_of (asked.Layout o Cross) text second = elim (drawn o text) [ inl p ↦ inl (p.0, made p.0 (some_layer o text p.0 p.1)) | inr none ↦ inr none ]
+some_of (asked.Layout o (Edit name)) text second = elim (drawn o text) [ inl p ↦ inl (p.0, unread p.0 p.1) | inr none ↦ inr none ]
+some_of (asked.Layout o Balance) text second = elim (drawn o text) [ inl p ↦ inl (p.0, made p.0 (some_layer o text p.0 p.1)) | inr none ↦ inr none ]
+some_of (asked.Layout o Refine) text second = elim (drawn o text) [ inl p ↦ inl (p.0, made p.0 (some_layer o text p.0 p.1)) | inr none ↦ inr none ]
 
 opened_decided : (asked : Option Opened) (second : List ℕ) → IsDecided (IsOpenedLong asked second)
 opened_decided None second = inr (λ e p. let both : ◌≡◌ {A = Option Opened} None (Some p.0) = p.1 in absurd (cc))
@@ -136,14 +133,14 @@ opened_decided (Some o) second = elim (cases_lt (most_of o.counted) (length seco
       absurd (omega (arith, l, long)))
 ]
 
-bytes_decided : (c : PlainCommand) (text second : List ℕ) → AllDecided (bytes_reasons c text second)
+bytes_decided : (c : Command) (text second : List ℕ) → AllDecided (bytes_reasons c text second)
 bytes_decided c text second = (
   passed_decided counted.LayoutBytes _ (long_decided (reads_layout c) MOST_LAYOUT_BYTES (length text)),
   (opened_decided (opens c) second, tt),
 )
 
 -- some status is due, or what is due goes by the cells
-pub some_due : (command : Result PlainCommand ℕ) (text second : List ℕ)
+pub some_due : (command : Result Command ℕ) (text second : List ℕ)
     → ((status : Status) × (output : List ℕ) × IsDueOf command text second status output) ⊎ GoByCells command text second
 some_due (Err kind) text second = inl (Usage kind, [], (refl, refl))
 some_due (Ok c) text second = elim (first_decided (bytes_reasons c text second) (bytes_decided c text second)) [

@@ -1,7 +1,7 @@
 -- No device failed where the status does not say so.
 use Rattle.std.proofs.Common.{◌≡◌, ◌≢◌, ◌∙◌, ℕ, List, Bool, true, false, Option, Result, Ok, Err, inl, inr, refl, sym, subst}
 use Rattle.dpl_ext.specs.Device.{Seen}
-use Rattle.dpl_words.specs.Commands.{PlainCommand}
+use Rattle.dpl_words.specs.declared.command.Command.{Command}
 use Rattle.dpl_run.specs.declared.status.Status.{Status}
 use Rattle.dpl_run.specs.declared.status.Status.TheVariants.{Usage, ReadFault, WriteFault, NoMemory}
 use Rattle.dpl_run.specs.Devices.{IsLayoutTouched, IsTouched, Reads}
@@ -33,7 +33,7 @@ steady_ok P r v e h = h (λ f. absurd (cc)) (λ f. absurd (cc))
 -- ---- what was read
 
 -- writing what is due reads nothing
-pub told_reads : (c : Result PlainCommand ℕ) (s : Status) (x : List ℕ) (before now : Option (List ℕ)) (f g : ℕ) (result : Status)
+pub told_reads : (c : Result Command ℕ) (s : Status) (x : List ℕ) (before now : Option (List ℕ)) (f g : ℕ) (result : Status)
     → (l m p q : Seen) → IsTold s x before now f g result → Reads c s l m p q → Reads c result l m p q
 told_reads c s x before now f g result l m p q (inl w) d = subst (λ z. Reads c z l m p q) (sym w.status_is) d
 told_reads c s x before now f g result l m p q (inr w) d = subst (λ z. Reads c z l m p q) (sym w.fault) (record {
@@ -49,12 +49,12 @@ layout_untouched : (reads : Bool) (l : Seen) → IsLayoutTouched reads l l
 layout_untouched true l = refl
 layout_untouched false l = refl
 
-all_untouched : (c : Result PlainCommand ℕ) (l p : Seen) → IsTouched c l l p p
+all_untouched : (c : Result Command ℕ) (l p : Seen) → IsTouched c l l p p
 all_untouched (Err kind) l p = (refl, refl)
 all_untouched (Ok c) l p = (layout_untouched (reads_layout c) l, untouched (opens c) p)
 
 -- the words alone gave the status
-pub usage_reads : (c : Result PlainCommand ℕ) (kind : ℕ) (l p : Seen) → Reads c (Usage kind) l l p p
+pub usage_reads : (c : Result Command ℕ) (kind : ℕ) (l p : Seen) → Reads c (Usage kind) l l p p
 usage_reads c kind l p = record {
   read = λ e. absurd (cc);
   limit = λ n e. absurd (cc);
@@ -63,7 +63,7 @@ usage_reads c kind l p = record {
   touched = all_untouched c l p;
 }
 
-pub memory_reads : (c : Result PlainCommand ℕ) (l p : Seen) → Reads c NoMemory l l p p
+pub memory_reads : (c : Result Command ℕ) (l p : Seen) → Reads c NoMemory l l p p
 memory_reads c l p = record {
   read = λ e. absurd (cc);
   limit = λ n e. absurd (cc);

@@ -4,7 +4,8 @@ use Rattle.std.specs.Prelude.{Result, Ok, Err}
 use Rattle.std.proofs.lemmas.List.{take-append-drop}
 use Rattle.std.specs.Io.KnownBytes.{Appends, Keeps}
 use Rattle.dpl_ext.specs.Device.{Texts, Rose}
-use Rattle.dpl_words.specs.Commands.{PlainCommand, asked_by}
+use Rattle.dpl_words.specs.Commands.{asked_by}
+use Rattle.dpl_words.specs.declared.command.Command.{Command}
 use Rattle.dpl_run.specs.declared.status.Status.{Status}
 use Rattle.dpl_run.specs.declared.status.Status.TheVariants.{Done, Rejected, Usage, Layout, Limit, Script, ReadFault, WriteFault, NoMemory}
 use Rattle.dpl_run.specs.Answer.{Answers, IsCutShort, IsDue, IsDueOf, IsQuiet, IsStatusOf, IsWritten}
@@ -75,7 +76,7 @@ comes Due once before now due (Script line kind) x w p n = inl (once _ due w.out
 -- ---- for a command
 
 -- the status of an attempt, with its output told, answers the words and the texts
-pub attempt_answers : (words : List (List ℕ)) (command : Result PlainCommand ℕ) (left : Option (List ℕ))
+pub attempt_answers : (words : List (List ℕ)) (command : Result Command ℕ) (left : Option (List ℕ))
     → (texts : Option Texts) (before now : Option (List ℕ)) (f g : ℕ) (a : Status) (x : List ℕ)
     → (result : Status) → asked_by words ≡ command
     → ((text report : List ℕ) → AreTold command left texts text report → IsDueOrFree (IsDueOf command text report) a x)
@@ -134,14 +135,14 @@ all_comes words text second before now due result output d a n =
 -- ---- whatever the devices do
 
 -- a status of the command, with its output told, is one of the words
-pub told_status : (words : List (List ℕ)) (c : PlainCommand) (a : Status) (x : List ℕ) (before now : Option (List ℕ)) (f g : ℕ) (result : Status)
+pub told_status : (words : List (List ℕ)) (c : Command) (a : Status) (x : List ℕ) (before now : Option (List ℕ)) (f g : ℕ) (result : Status)
     → asked_by words ≡ Ok c → IsStatusOf (Ok c) a → IsTold a x before now f g result
     → IsStatusOf (asked_by words) result
 told_status words c a x before now f g result e s (inl w) = subst (λ z. IsStatusOf z result) (sym e) (subst (IsStatusOf (Ok c)) (sym w.status_is) s)
 told_status words c a x before now f g result e s (inr w) = subst (λ z. IsStatusOf z result) (sym e) (subst (IsStatusOf (Ok c)) (sym w.fault) tt)
 
 -- want of memory is a status of all words
-pub memory_status : (command : Result PlainCommand ℕ) → IsStatusOf command NoMemory
+pub memory_status : (command : Result Command ℕ) → IsStatusOf command NoMemory
 memory_status (Err kind) = inr refl
 memory_status (Ok c) = tt
 

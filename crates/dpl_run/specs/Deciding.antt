@@ -3,23 +3,19 @@ use Rattle.std.specs.Prelude.{◌≡◌, ℕ, List, Option, Some, None, IfSome, 
 use Rattle.dpl_options.specs.Options.{PlainOptions}
 use Rattle.dpl_layer.specs.Reasons.{NoneOf}
 use Rattle.dpl_layer.specs.Drawings.{drawing_reasons}
-use Rattle.dpl_words.specs.Commands.{PlainCommand, split, check, load, cross, edit, balance, refine}
+use Rattle.dpl_words.specs.declared.command.Command.{Command}
+use Rattle.dpl_words.specs.declared.command.Command.TheVariants as asked
 use Rattle.dpl_run.specs.Answer.{bytes_reasons}
 
 -- the options by which a command draws its layout
-abbrev pub drawn_by : PlainCommand → Option PlainOptions
-drawn_by (split options) = Some options
-drawn_by (check options name) = Some options
-drawn_by (load start rows columns) = None
-drawn_by (cross options) = Some options
-drawn_by (edit options name) = Some options
-drawn_by (balance options) = Some options
-drawn_by (refine options) = Some options
+abbrev pub drawn_by : Command → Option PlainOptions
+drawn_by (asked.Layout options work) = Some options
+drawn_by (asked.Load start rows columns) = None
 
 -- the words are right, the texts within their limits on bytes, and the layout is drawn: its cells, or those of the made
 -- layout, decide what is due
-pub record GoByCells (command : Result PlainCommand ℕ) (text second : List ℕ) : Type 0 where
-  pub asked : PlainCommand
+pub record GoByCells (command : Result Command ℕ) (text second : List ℕ) : Type 0 where
+  pub asked : Command
   pub is : command ≡ Ok asked
   pub short : NoneOf (bytes_reasons asked text second)
   pub drawn : IfSome (drawn_by asked) (λ o. NoneOf (drawing_reasons o text))

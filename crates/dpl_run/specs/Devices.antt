@@ -2,7 +2,7 @@
 use Rattle.std.specs.Prelude.{◌≡◌, ◌⊎◌, ◌+◌, ⊤, ℕ, ◌∷◌, ◌++◌, List, [], Bool, true, false, Option, Some, None, Result, Ok, Err}
 use Rattle.dpl_ext.specs.Device.{Seen, Texts, Rose, RoseBy, first_text}
 use Rattle.dpl_limits.specs.declared.TheConstants.{MOST_LAYOUT_BYTES, MOST_REPORT_BYTES, MOST_SCRIPT_BYTES}
-use Rattle.dpl_words.specs.Commands.{PlainCommand}
+use Rattle.dpl_words.specs.declared.command.Command.{Command}
 use Rattle.dpl_run.specs.declared.status.Status.{Status}
 use Rattle.dpl_run.specs.declared.status.Status.TheVariants.{Limit, ReadFault, NoMemory}
 use Rattle.dpl_run.specs.Inputs.{Opened, reads_layout, opens}
@@ -21,7 +21,7 @@ IsSecondTold (Some opened) texts second =
     (ts : Texts) × (texts ≡ Some ts) × (first_text opened.name ts ≡ Some second)
 
 -- the devices tell this layout and this second text, as far as the command reads them
-abbrev pub AreTold : Result PlainCommand ℕ → Option (List ℕ) → Option Texts → List ℕ → List ℕ →
+abbrev pub AreTold : Result Command ℕ → Option (List ℕ) → Option Texts → List ℕ → List ℕ →
     Type 0
 AreTold (Err kind) left texts text second = ⊤
 AreTold (Ok c) left texts text second =
@@ -34,7 +34,7 @@ IsAbsent (Some opened) texts =
     (ts : Texts) × (texts ≡ Some ts) × (first_text opened.name ts ≡ None)
 
 -- the command opens such a text
-abbrev pub AskForAbsent : Result PlainCommand ℕ → Option Texts → Type 0
+abbrev pub AskForAbsent : Result Command ℕ → Option Texts → Type 0
 AskForAbsent (Err kind) texts = ⊥
 AskForAbsent (Ok c) texts = IsAbsent (opens c) texts
 
@@ -63,7 +63,7 @@ IsSecondFault (Some opened) before now =
     Rose before.faults now.faults × (now.asked ≡ before.asked ++ opened.name ∷ [])
 
 -- a call that failed is one of those by which the texts of the command are read
-abbrev pub IsReadFault : Result PlainCommand ℕ → Seen → Seen → Seen → Seen → Type 0
+abbrev pub IsReadFault : Result Command ℕ → Seen → Seen → Seen → Seen → Type 0
 IsReadFault (Err kind) layout layout_now second second_now = ⊥
 IsReadFault (Ok c) layout layout_now second second_now =
     IsLayoutFault (reads_layout c) layout layout_now ⊎ IsSecondFault (opens c) second second_now
@@ -85,7 +85,7 @@ IsSecondTouched None before now = now ≡ before
 IsSecondTouched (Some opened) before now = AsksFor opened.name before now
 
 -- a device that the command does not read is as it was
-abbrev pub IsTouched : Result PlainCommand ℕ → Seen → Seen → Seen → Seen → Type 0
+abbrev pub IsTouched : Result Command ℕ → Seen → Seen → Seen → Seen → Type 0
 IsTouched (Err kind) layout layout_now second second_now =
     (layout_now ≡ layout) × (second_now ≡ second)
 IsTouched (Ok c) layout layout_now second second_now =
@@ -99,7 +99,7 @@ AreSteady layout layout_now second second_now out out_now =
 -- ---- all of it by the status
 
 -- what a command did to the devices that it reads
-pub record Reads (command : Result PlainCommand ℕ) (status : Status)
+pub record Reads (command : Result Command ℕ) (status : Status)
     (layout layout_now second second_now : Seen) : Type 0 where
   pub read : status ≡ ReadFault → IsReadFault command layout layout_now second second_now
   pub limit : (count : ℕ) → status ≡ Limit 1 count →

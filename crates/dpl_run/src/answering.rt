@@ -1,7 +1,7 @@
 // What is due for a command over its devices.
 ghost use Rattle.std.specs.Prelude.{◌+◌, ◌≡◌, ◌≢◌, ℕ, List, Ok};
 ghost use Rattle.dpl_limits.specs.declared.TheConstants.{MOST_LAYOUT_BYTES, MOST_REPORT_BYTES, MOST_SCRIPT_BYTES};
-ghost use Rattle.dpl_words.specs.Views.{plain_command, IsInRange};
+ghost use Rattle.dpl_words.specs.Views.{IsInRange};
 ghost use Rattle.dpl_run.specs.Inputs.{opens};
 ghost use Rattle.dpl_run.specs.Answer.{IsDueOf, IsStatusOf};
 ghost use Rattle.dpl_run.specs.Devices.{AreTold, IsAbsent, IsReadFault, IsTouched, IsUnread, PassesBytes};
@@ -24,12 +24,12 @@ pub fn due_for<S: Source, F: Shelf>(
 ) -> Due
     requires { IsInRange command.now }
     ensures due { (text other : List ℕ)
-        → AreTold (Ok (plain_command command.now)) (S.seen layout.old).left (F.texts second.old)
+        → AreTold (Ok command.now) (S.seen layout.old).left (F.texts second.old)
         text other
-        → IsDueOrFree (IsDueOf (Ok (plain_command command.now)) text other) result.status
+        → IsDueOrFree (IsDueOf (Ok command.now) text other) result.status
         result.output.items }
     ensures read { result.status ≡ Status.ReadFault →
-        IsReadFault (Ok (plain_command command.now)) (S.seen layout.old) (S.seen layout.new)
+        IsReadFault (Ok command.now) (S.seen layout.old) (S.seen layout.new)
         (F.seen second.old) (F.seen second.new) }
     ensures limit { (count : ℕ) → result.status ≡ Status.Limit 1 count →
         PassesBytes (MOST_LAYOUT_BYTES + 1) count (S.seen layout.old) (S.seen layout.new) }
@@ -37,15 +37,15 @@ pub fn due_for<S: Source, F: Shelf>(
         PassesBytes (MOST_REPORT_BYTES + 1) count (F.seen second.old) (F.seen second.new) }
     ensures script_limit { (count : ℕ) → result.status ≡ Status.Limit 10 count →
         PassesBytes (MOST_SCRIPT_BYTES + 1) count (F.seen second.old) (F.seen second.new) }
-    ensures absent { IsAbsent (opens (plain_command command.now)) (F.texts second.old) →
+    ensures absent { IsAbsent (opens command.now) (F.texts second.old) →
         IsUnread result.status }
-    ensures touched { IsTouched (Ok (plain_command command.now)) (S.seen layout.old)
+    ensures touched { IsTouched (Ok command.now) (S.seen layout.old)
         (S.seen layout.new) (F.seen second.old) (F.seen second.new) }
     ensures steady { result.status ≢ Status.ReadFault → result.status ≢ Status.NoMemory →
         ((S.seen layout.new).faults ≡ (S.seen layout.old).faults) ×
         ((F.seen second.new).faults ≡ (F.seen second.old).faults) }
     ensures bare { IsBare result.status result.output.items }
-    ensures of_words { IsStatusOf (Ok (plain_command command.now)) result.status }
+    ensures of_words { IsStatusOf (Ok command.now) result.status }
 {
     let read = match layout_for(alloc, reads_layout(command), layout) {
         Ok(read) => read,

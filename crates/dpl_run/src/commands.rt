@@ -2,7 +2,7 @@
 ghost use Rattle.std.specs.Prelude.{◌≡◌, ◌≤◌, length};
 ghost use Rattle.dpl_limits.specs.declared.TheConstants.{MOST_LAYOUT_BYTES};
 ghost use Rattle.dpl_lex.specs.Cutting.{commands_of};
-ghost use Rattle.dpl_words.specs.Views.{plain_command, IsInRange};
+ghost use Rattle.dpl_words.specs.Views.{IsInRange};
 ghost use Rattle.dpl_run.specs.Inputs.{opens};
 ghost use Rattle.dpl_run.specs.Answer.{DueOf};
 ghost use Rattle.dpl_run.specs.Telling.{IsSmall, IsWorked};
@@ -17,7 +17,7 @@ use crate::due::Due;
 use check::check_bytes;
 use cross::cross_bytes;
 use dpl_lex::types::Commands;
-use dpl_words::Command;
+use dpl_words::{Command, Work};
 use edit::edit_bytes;
 use load::load_made;
 use split::{balance_bytes, refine_bytes, split_bytes};
@@ -35,17 +35,19 @@ pub fn carry_out(
     requires range { IsInRange command.now }
     requires short { length text.now ≤ MOST_LAYOUT_BYTES }
     requires commands { commands.now ≡ commands_of text.now }
-    requires small { IsSmall (opens (plain_command command.now)) second.now }
-    ensures { IsWorked (DueOf (plain_command command.now) text.now second.now) result.status
+    requires small { IsSmall (opens command.now) second.now }
+    ensures { IsWorked (DueOf command.now text.now second.now) result.status
         result.output.items }
 {
     match command {
-        Command::Split(options) => split_bytes(alloc, options, text, commands),
-        Command::Balance(options) => balance_bytes(alloc, options, text, commands),
-        Command::Refine(options) => refine_bytes(alloc, options, text, commands),
-        Command::Cross(options) => cross_bytes(alloc, options, text, commands),
-        Command::Check { options, .. } => check_bytes(alloc, options, text, commands, second),
-        Command::Edit { options, .. } => edit_bytes(alloc, options, text, commands, second),
+        Command::Layout { options, work } => match work {
+            Work::Split => split_bytes(alloc, options, text, commands),
+            Work::Balance => balance_bytes(alloc, options, text, commands),
+            Work::Refine => refine_bytes(alloc, options, text, commands),
+            Work::Cross => cross_bytes(alloc, options, text, commands),
+            Work::Check(_) => check_bytes(alloc, options, text, commands, second),
+            Work::Edit(_) => edit_bytes(alloc, options, text, commands, second),
+        },
         Command::Load {
             start,
             rows,

@@ -3,7 +3,6 @@ ghost use Rattle.std.specs.Prelude.{◌≡◌, ◌≢◌, ◌⊎◌, ◌≤◌, 
 ghost use Rattle.dpl_limits.specs.declared.TheConstants.{MOST_LAYOUT_BYTES};
 ghost use Rattle.dpl_lex.specs.Cutting.{commands_of};
 ghost use Rattle.dpl_ext.specs.Reading.{IsWhole};
-ghost use Rattle.dpl_words.specs.Views.{plain_command};
 ghost use Rattle.dpl_run.specs.Inputs.{reads_layout as do_read_layout, opens};
 ghost use Rattle.dpl_run.specs.Devices.{IsAbsent, IsLayoutTouched, IsSecondTouched};
 ghost use Rattle.dpl_run.specs.Telling.{IsSecondRead, IsSmall, StopsOpening, StopsReading};
@@ -13,20 +12,15 @@ use crate::texts::{layout_of, no_layout, second_of};
 use dpl_ext::{Shelf, Source};
 use dpl_lex::types::Lexed;
 use dpl_limits::Counted;
-use dpl_words::Command;
+use dpl_words::{Command, Work};
 use std::alloc::Global;
 
 /// Whether a command reads the layout.
 pub fn reads_layout(command: &Command) -> bool
-    ensures { result ≡ do_read_layout (plain_command command.now) }
+    ensures { result ≡ do_read_layout command.now }
 {
     match command {
-        Command::Split(_) => true,
-        Command::Balance(_) => true,
-        Command::Refine(_) => true,
-        Command::Cross(_) => true,
-        Command::Check { .. } => true,
-        Command::Edit { .. } => true,
+        Command::Layout { .. } => true,
         Command::Load { .. } => false,
     }
 }
@@ -56,28 +50,23 @@ pub fn second_for<F: Shelf>(
     second: &mut F,
 ) -> Result<Vec<u8>, Status>
     ensures read { IfOk result (λ v.
-        IsSecondRead (opens (plain_command command.now)) (F.texts second.old) v.items) }
-    ensures small { IfOk result (λ v. IsSmall (opens (plain_command command.now)) v.items) }
-    ensures stops { IfErr result (StopsOpening (opens (plain_command command.now))
+        IsSecondRead (opens command.now) (F.texts second.old) v.items) }
+    ensures small { IfOk result (λ v. IsSmall (opens command.now) v.items) }
+    ensures stops { IfErr result (StopsOpening (opens command.now)
         (F.seen second.old) (F.seen second.new) (F.texts second.old)) }
-    ensures absent { IsAbsent (opens (plain_command command.now)) (F.texts second.old) →
+    ensures absent { IsAbsent (opens command.now) (F.texts second.old) →
         (result ≡ Err Status.ReadFault) ⊎ (result ≡ Err Status.NoMemory) }
-    ensures touched { IsSecondTouched (opens (plain_command command.now)) (F.seen second.old)
+    ensures touched { IsSecondTouched (opens command.now) (F.seen second.old)
         (F.seen second.new) }
     ensures steady { result ≢ Err Status.ReadFault → result ≢ Err Status.NoMemory →
         (F.seen second.new).faults ≡ (F.seen second.old).faults }
 {
-    match command {
-        Command::Split(_) => Ok(Vec::new(alloc)),
-        Command::Balance(_) => Ok(Vec::new(alloc)),
-        Command::Refine(_) => Ok(Vec::new(alloc)),
-        Command::Cross(_) => Ok(Vec::new(alloc)),
-        Command::Check { report, .. } => {
-            second_of(alloc, report.as_str(), Counted::ReportBytes, second)
-        }
-        Command::Edit { script, .. } => {
-            second_of(alloc, script.as_str(), Counted::ScriptBytes, second)
-        }
-        Command::Load { .. } => Ok(Vec::new(alloc)),
+    let Command::Layout { work, .. } = command else {
+        return Ok(Vec::new(alloc));
+    };
+    match work {
+        Work::Check(report) => second_of(alloc, report.as_str(), Counted::ReportBytes, second),
+        Work::Edit(script) => second_of(alloc, script.as_str(), Counted::ScriptBytes, second),
+        _ => Ok(Vec::new(alloc)),
     }
 }

@@ -21,7 +21,7 @@ ghost use Rattle.dpl_layer.specs.Drawings.{Cells, IsDrawingOf, drawing_reasons};
 ghost use Rattle.dpl_layer.specs.Reasons.{FirstOf, NoneOf};
 ghost use Rattle.dpl_core.specs.Reports.{IsReportOfCells, IsSplit, IsBalancedSplit, IsRefinedSplit};
 ghost use Rattle.dpl_check.specs.Checked.{IsAcceptedOf};
-ghost use Rattle.dpl_words.specs.Commands.{PlainCommand, split, check, load, cross, edit, balance, refine, asked_by};
+ghost use Rattle.dpl_words.specs.Commands.{asked_by};
 ghost use Rattle.dpl_words.specs.Scripts.{IsFirstBad};
 ghost use Rattle.dpl_run.specs.Inputs.{reads_layout};
 ghost use Rattle.dpl_run.specs.Answer.{Answers, IsDue, IsDueOf, IsQuiet, IsStatusOf};
@@ -35,6 +35,8 @@ ghost use Rattle.dpl_run.specs.due.Load.{loaded_line};
 ghost use Rattle.dpl_run.specs.declared.status.Status.{Status};
 ghost use Rattle.dpl_run.specs.declared.status.Status.TheVariants.{Done, Rejected, Usage, Limit, Script, NoMemory, ReadFault, WriteFault};
 
+use dpl_words::{Command, Work};
+
 /// That a place lies in a stretch, or a cell in a box, is the same as a test and as a fact.
 pub fn cells_are_tested()
     ensures places { (a b x : ℤ) → is_within a b x ≡ true ↔ IsWithin a b x }
@@ -44,19 +46,22 @@ pub fn cells_are_tested()
 /// Devices that tell: a layout that is left, and a text that is the first of its name. A made layout needs none.
 pub fn devices_tell()
     ensures split { (o : PlainOptions) (text second : List ℕ) (texts : Option Texts) →
-        AreTold (Ok (split o)) (Some text) texts text second }
+        AreTold (Ok (Command.Layout o Work.Split)) (Some text) texts text second }
     ensures balance { (o : PlainOptions) (text second : List ℕ) (texts : Option Texts) →
-        AreTold (Ok (balance o)) (Some text) texts text second }
+        AreTold (Ok (Command.Layout o Work.Balance)) (Some text) texts text second }
     ensures refine { (o : PlainOptions) (text second : List ℕ) (texts : Option Texts) →
-        AreTold (Ok (refine o)) (Some text) texts text second }
+        AreTold (Ok (Command.Layout o Work.Refine)) (Some text) texts text second }
     ensures cross { (o : PlainOptions) (text second : List ℕ) (texts : Option Texts) →
-        AreTold (Ok (cross o)) (Some text) texts text second }
+        AreTold (Ok (Command.Layout o Work.Cross)) (Some text) texts text second }
     ensures check { (o : PlainOptions) (name text second : List ℕ) (others : Texts) →
-        AreTold (Ok (check o name)) (Some text) (Some ((name, second) ∷ others)) text second }
+        AreTold (Ok (Command.Layout o (Work.Check name))) (Some text)
+        (Some ((name, second) ∷ others)) text second }
     ensures edit { (o : PlainOptions) (name text second : List ℕ) (others : Texts) →
-        AreTold (Ok (edit o name)) (Some text) (Some ((name, second) ∷ others)) text second }
+        AreTold (Ok (Command.Layout o (Work.Edit name))) (Some text)
+        (Some ((name, second) ∷ others)) text second }
     ensures load { (start rows columns : ℕ) (left : Option (List ℕ)) (texts : Option Texts)
-        (text second : List ℕ) → AreTold (Ok (load start rows columns)) left texts text second }
+        (text second : List ℕ) →
+        AreTold (Ok (Command.Load start rows columns)) left texts text second }
     ensures wrong_words { (kind : ℕ) (left : Option (List ℕ)) (texts : Option Texts)
         (text second : List ℕ) → AreTold (Err kind) left texts text second }
 {}
@@ -84,7 +89,7 @@ pub fn one_due()
 /// one that breaks a rule, or has too many primitives or calls or a coordinate that is too great. Elsewhere the cells
 /// decide what is due.
 pub fn some_due()
-    ensures { (command : Result PlainCommand ℕ) (text second : List ℕ) →
+    ensures { (command : Result Command ℕ) (text second : List ℕ) →
         ((status : Status) × (output : List ℕ) × IsDueOf command text second status output)
         ⊎ GoByCells command text second }
 {}
@@ -93,17 +98,17 @@ pub fn some_due()
 /// says; so did a balanced one, whose masks cover about the same area, and a refined one wrote a refined report.
 pub fn split_is_least()
     ensures split { (words : List (List ℕ)) (o : PlainOptions) (text second taken : List ℕ)
-        (now : Option (List ℕ)) → asked_by words ≡ Ok (split o) →
+        (now : Option (List ℕ)) → asked_by words ≡ Ok (Command.Layout o Work.Split) →
         Answers (IsDue words text second) (Some taken) now Done →
         (output : List ℕ) × (now ≡ Some (taken ++ output)) × IsSplit o text output }
     ensures balance { (words : List (List ℕ)) (o : PlainOptions) (text second taken : List ℕ)
-        (now : Option (List ℕ)) → asked_by words ≡ Ok (balance o) →
+        (now : Option (List ℕ)) → asked_by words ≡ Ok (Command.Layout o Work.Balance) →
         Answers (IsDue words text second) (Some taken) now Done →
         (output : List ℕ) × (now ≡ Some (taken ++ output)) × IsBalancedSplit o text output }
     ensures balanced { (o : PlainOptions) (text output : List ℕ) →
         IsBalancedSplit o text output → IsSplit o text output }
     ensures refine { (words : List (List ℕ)) (o : PlainOptions) (text second taken : List ℕ)
-        (now : Option (List ℕ)) → asked_by words ≡ Ok (refine o) →
+        (now : Option (List ℕ)) → asked_by words ≡ Ok (Command.Layout o Work.Refine) →
         Answers (IsDue words text second) (Some taken) now Done →
         (output : List ℕ) × (now ≡ Some (taken ++ output)) × IsRefinedSplit o text output }
 {}
@@ -112,7 +117,7 @@ pub fn split_is_least()
 /// every pair of masks costs at least half the bound.
 pub fn yes_is_accepted()
     ensures { (words : List (List ℕ)) (o : PlainOptions) (name text report taken : List ℕ)
-        (now : Option (List ℕ)) → asked_by words ≡ Ok (check o name) →
+        (now : Option (List ℕ)) → asked_by words ≡ Ok (Command.Layout o (Work.Check name)) →
         Answers (IsDue words text report) (Some taken) now Done → (cost : ℕ) × (bound : ℕ) ×
         (now ≡ Some (taken ++ yes_line cost bound)) × IsAcceptedOf o text report cost bound }
 {}
@@ -140,15 +145,17 @@ pub fn scripts_are_followed()
 /// What is told first: that the layout is too long, that the text beside it is, that the layout has no drawing or its content
 /// no report, and then that a line of the script is not of the form. Each is due whatever is told after it.
 pub fn refusals_are_in_order()
-    ensures layout { (c : PlainCommand) (text second : List ℕ) → reads_layout c ≡ true →
+    ensures layout { (c : Command) (text second : List ℕ) → reads_layout c ≡ true →
         MOST_LAYOUT_BYTES < length text →
         IsDueOf (Ok c) text second (Limit 1 (MOST_LAYOUT_BYTES + 1)) [] }
     ensures report { (o : PlainOptions) (name text second : List ℕ) →
         length text ≤ MOST_LAYOUT_BYTES → MOST_REPORT_BYTES < length second →
-        IsDueOf (Ok (check o name)) text second (Limit 9 (MOST_REPORT_BYTES + 1)) [] }
+        IsDueOf (Ok (Command.Layout o (Work.Check name))) text second
+        (Limit 9 (MOST_REPORT_BYTES + 1)) [] }
     ensures script { (o : PlainOptions) (name text second : List ℕ) →
         length text ≤ MOST_LAYOUT_BYTES → MOST_SCRIPT_BYTES < length second →
-        IsDueOf (Ok (edit o name)) text second (Limit 10 (MOST_SCRIPT_BYTES + 1)) [] }
+        IsDueOf (Ok (Command.Layout o (Work.Edit name))) text second
+        (Limit 10 (MOST_SCRIPT_BYTES + 1)) [] }
     ensures drawing { (o : PlainOptions) (text script : List ℕ) (e : LayerError) →
         FirstOf (drawing_reasons o text) e → IsEditDue o text script (status_of e) [] }
     ensures content { (o : PlainOptions) (text script : List ℕ) (d : Drawing) (e : LayerError) →
@@ -193,34 +200,34 @@ pub fn outputs_are_taken()
 pub fn read_faults_have_causes()
     ensures split { (o : PlainOptions) (layout layout_now second second_now : Seen) →
         layout.faults < last_count →
-        IsReadFault (Ok (split o)) layout layout_now second second_now
+        IsReadFault (Ok (Command.Layout o Work.Split)) layout layout_now second second_now
         ↔ (layout.faults < layout_now.faults) }
     ensures balance { (o : PlainOptions) (layout layout_now second second_now : Seen) →
         layout.faults < last_count →
-        IsReadFault (Ok (balance o)) layout layout_now second second_now
+        IsReadFault (Ok (Command.Layout o Work.Balance)) layout layout_now second second_now
         ↔ (layout.faults < layout_now.faults) }
     ensures refine { (o : PlainOptions) (layout layout_now second second_now : Seen) →
         layout.faults < last_count →
-        IsReadFault (Ok (refine o)) layout layout_now second second_now
+        IsReadFault (Ok (Command.Layout o Work.Refine)) layout layout_now second second_now
         ↔ (layout.faults < layout_now.faults) }
     ensures cross { (o : PlainOptions) (layout layout_now second second_now : Seen) →
         layout.faults < last_count →
-        IsReadFault (Ok (cross o)) layout layout_now second second_now
+        IsReadFault (Ok (Command.Layout o Work.Cross)) layout layout_now second second_now
         ↔ (layout.faults < layout_now.faults) }
     ensures check { (o : PlainOptions) (name : List ℕ)
         (layout layout_now second second_now : Seen) → layout.faults < last_count →
         second.faults < last_count →
-        IsReadFault (Ok (check o name)) layout layout_now second second_now
+        IsReadFault (Ok (Command.Layout o (Work.Check name))) layout layout_now second second_now
         ↔ ((layout.faults < layout_now.faults) ⊎ ((second.faults < second_now.faults) ×
         (second_now.asked ≡ second.asked ++ name ∷ []))) }
     ensures edit { (o : PlainOptions) (name : List ℕ)
         (layout layout_now second second_now : Seen) → layout.faults < last_count →
         second.faults < last_count →
-        IsReadFault (Ok (edit o name)) layout layout_now second second_now
+        IsReadFault (Ok (Command.Layout o (Work.Edit name))) layout layout_now second second_now
         ↔ ((layout.faults < layout_now.faults) ⊎ ((second.faults < second_now.faults) ×
         (second_now.asked ≡ second.asked ++ name ∷ []))) }
     ensures load { (start rows columns : ℕ) (layout layout_now second second_now : Seen) →
-        ¬ IsReadFault (Ok (load start rows columns)) layout layout_now second second_now }
+        ¬ IsReadFault (Ok (Command.Load start rows columns)) layout layout_now second second_now }
     ensures wrong_words { (kind : ℕ) (layout layout_now second second_now : Seen) →
         ¬ IsReadFault (Err kind) layout layout_now second second_now }
 {}
@@ -234,27 +241,27 @@ pub fn one_byte_more_is_read()
 /// A command leaves the devices as they were that it does not read, and asks the shelf for no name but its own, once.
 pub fn devices_are_left()
     ensures split { (o : PlainOptions) (layout layout_now second second_now : Seen) →
-        IsTouched (Ok (split o)) layout layout_now second second_now
+        IsTouched (Ok (Command.Layout o Work.Split)) layout layout_now second second_now
         ↔ ((layout_now.asked ≡ layout.asked) × (second_now ≡ second)) }
     ensures balance { (o : PlainOptions) (layout layout_now second second_now : Seen) →
-        IsTouched (Ok (balance o)) layout layout_now second second_now
+        IsTouched (Ok (Command.Layout o Work.Balance)) layout layout_now second second_now
         ↔ ((layout_now.asked ≡ layout.asked) × (second_now ≡ second)) }
     ensures refine { (o : PlainOptions) (layout layout_now second second_now : Seen) →
-        IsTouched (Ok (refine o)) layout layout_now second second_now
+        IsTouched (Ok (Command.Layout o Work.Refine)) layout layout_now second second_now
         ↔ ((layout_now.asked ≡ layout.asked) × (second_now ≡ second)) }
     ensures cross { (o : PlainOptions) (layout layout_now second second_now : Seen) →
-        IsTouched (Ok (cross o)) layout layout_now second second_now
+        IsTouched (Ok (Command.Layout o Work.Cross)) layout layout_now second second_now
         ↔ ((layout_now.asked ≡ layout.asked) × (second_now ≡ second)) }
     ensures check { (o : PlainOptions) (name : List ℕ)
         (layout layout_now second second_now : Seen) →
-        IsTouched (Ok (check o name)) layout layout_now second second_now
+        IsTouched (Ok (Command.Layout o (Work.Check name))) layout layout_now second second_now
         ↔ ((layout_now.asked ≡ layout.asked) × AsksFor name second second_now) }
     ensures edit { (o : PlainOptions) (name : List ℕ)
         (layout layout_now second second_now : Seen) →
-        IsTouched (Ok (edit o name)) layout layout_now second second_now
+        IsTouched (Ok (Command.Layout o (Work.Edit name))) layout layout_now second second_now
         ↔ ((layout_now.asked ≡ layout.asked) × AsksFor name second second_now) }
     ensures load { (start rows columns : ℕ) (layout layout_now second second_now : Seen) →
-        IsTouched (Ok (load start rows columns)) layout layout_now second second_now
+        IsTouched (Ok (Command.Load start rows columns)) layout layout_now second second_now
         ↔ ((layout_now ≡ layout) × (second_now ≡ second)) }
     ensures wrong_words { (kind : ℕ) (layout layout_now second second_now : Seen) →
         IsTouched (Err kind) layout layout_now second second_now
@@ -268,24 +275,21 @@ pub fn devices_are_left()
 {}
 
 /// Words are wrong exactly where the answer says so, but for want of memory; `check` alone rejects and has a limit on its
-/// report, `edit` alone names a line and has a limit on its script, and neither `check` nor `cross` counts odd faces. No device is asked for that.
+/// report, `edit` alone names a line and has a limit on its script, and 8 names no limit. No device is asked for that.
 pub fn words_leave_statuses()
     ensures wrong_words { (kind : ℕ) (status : Status) → IsStatusOf (Err kind) status →
         status ≢ NoMemory → status ≡ Usage kind }
-    ensures right_words { (c : PlainCommand) (kind : ℕ) → ¬ IsStatusOf (Ok c) (Usage kind) }
-    ensures rejected { (c : PlainCommand) (reason place : ℕ) (found wanted : ℤ) →
+    ensures right_words { (c : Command) (kind : ℕ) → ¬ IsStatusOf (Ok c) (Usage kind) }
+    ensures rejected { (c : Command) (reason place : ℕ) (found wanted : ℤ) →
         IsStatusOf (Ok c) (Rejected reason place found wanted) →
-        (o : PlainOptions) × (name : List ℕ) × (c ≡ check o name) }
-    ensures report { (c : PlainCommand) (count : ℕ) → IsStatusOf (Ok c) (Limit 9 count) →
-        (o : PlainOptions) × (name : List ℕ) × (c ≡ check o name) }
-    ensures script { (c : PlainCommand) (count : ℕ) → IsStatusOf (Ok c) (Limit 10 count) →
-        (o : PlainOptions) × (name : List ℕ) × (c ≡ edit o name) }
-    ensures line { (c : PlainCommand) (line kind : ℕ) → IsStatusOf (Ok c) (Script line kind) →
-        (o : PlainOptions) × (name : List ℕ) × (c ≡ edit o name) }
-    ensures check { (o : PlainOptions) (name : List ℕ) (count : ℕ) →
-        ¬ IsStatusOf (Ok (check o name)) (Limit 8 count) }
-    ensures cross { (o : PlainOptions) (count : ℕ) →
-        ¬ IsStatusOf (Ok (cross o)) (Limit 8 count) }
-    ensures limits { (c : PlainCommand) (kind count : ℕ) → IsStatusOf (Ok c) (Limit kind count) →
+        (o : PlainOptions) × (name : List ℕ) × (c ≡ Command.Layout o (Work.Check name)) }
+    ensures report { (c : Command) (count : ℕ) → IsStatusOf (Ok c) (Limit 9 count) →
+        (o : PlainOptions) × (name : List ℕ) × (c ≡ Command.Layout o (Work.Check name)) }
+    ensures script { (c : Command) (count : ℕ) → IsStatusOf (Ok c) (Limit 10 count) →
+        (o : PlainOptions) × (name : List ℕ) × (c ≡ Command.Layout o (Work.Edit name)) }
+    ensures line { (c : Command) (line kind : ℕ) → IsStatusOf (Ok c) (Script line kind) →
+        (o : PlainOptions) × (name : List ℕ) × (c ≡ Command.Layout o (Work.Edit name)) }
+    ensures eight { (c : Command) (count : ℕ) → ¬ IsStatusOf (Ok c) (Limit 8 count) }
+    ensures limits { (c : Command) (kind count : ℕ) → IsStatusOf (Ok c) (Limit kind count) →
         (1 ≤ kind) × (kind ≤ 10) }
 {}

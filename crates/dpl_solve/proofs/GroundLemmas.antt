@@ -1,9 +1,20 @@
 -- The dual is a ground in which moats grow, and the odd faces of a part are seats of members.
-use Rattle.std.proofs.Common.{arith, ◌≡◌, ℕ, zero, suc, ◌%◌, ◌^◌, ◌≤◌, refl, sym, ap, ◌∙◌, subst}
+use Rattle.std.proofs.Common.{arith, ◌≡◌, ℕ, zero, suc, ◌%◌, ◌^◌, ◌≤◌, ◌==◌, Bool, refl, sym, ap, ◌∙◌, subst}
 use Rattle.std.proofs.Common.{inl, inr, List, [], ◌∷◌, length, length-append, get_or, cond}
-use Rattle.std.specs.Prelude.{All, Contains, slice_index}
+use Rattle.std.specs.Prelude.{All, Contains, filter, slice_index}
+use Rattle.std.specs.List.{range_with_len}
 use Rattle.std.proofs.lemmas.Bool.{cases_Bool, eqb-true, cond-true, cond-false}
+use Rattle.std.proofs.lemmas.List.FromFn.{length-range_with_len}
+use Rattle.std.proofs.lemmas.List.Sorted.{length_permutation}
+use Rattle.std.proofs.lemmas.List.Sums.{count_by-le-length, length-filter}
+use Rattle.dpl_limits.specs.declared.TheConstants.{MOST_EDGES}
+use Rattle.dpl_limits.proofs.Fits.{darts_fit}
+use Rattle.dpl_laminar.specs.declared.TheConstants.{MOST_MEMBERS}
 use Rattle.dpl_sign.specs.declared.graphs.Signed.{Signed}
+use Rattle.dpl_sign.specs.declared.nets.Net.{Net}
+use Rattle.dpl_sign.specs.Drawings.{dart_count}
+use Rattle.dpl_sign.specs.Parity.{is_odd_face}
+use Rattle.dpl_map.specs.Built.{IsMapOf}
 use Rattle.dpl_map.specs.Views.{MapView, view_of}
 use Rattle.dpl_map.proofs.ViewLemmas.{map_of}
 use Rattle.dpl_dual.specs.declared.crosses.Cross.{Cross}
@@ -17,7 +28,9 @@ use Rattle.dpl_pack.proofs.MoatLemmas.{terminal_facts}
 use Rattle.dpl_flood.specs.Flips.{AreOverChains}
 use Rattle.dpl_flood.specs.Starts.{AreSeats}
 use Rattle.dpl_flood.specs.States.{IsGround}
+use Rattle.dpl_solve.specs.Named.{keeps}
 use Rattle.dpl_solve.proofs.EvenLemmas.{even_terminals}
+use Rattle.dpl_solve.proofs.NamedLemmas.{odd_named_most}
 use Rattle.dpl_solve.proofs.ShortLemmas.{cross_length, short_chain}
 use Rattle.dpl_solve.proofs.TerminalLemmas.{terminal_at, terminals_linked, terminals_apart}
 
@@ -65,8 +78,30 @@ dual_ground d c =
 
 -- ---- the odd faces of a part
 
-pub terminal_seats : (d : Dual) (terminals : List ℕ) → CameFromDual d → AreTerminals d terminals → length terminals ≤ 2048
-    → AreSeats d terminals
+-- odd faces are named by darts, of which each edge has two
+pub terminals_few : (g : Signed) (net : Net) → IsMapOf g net → (d : Dual) → IsDual g (view_of net) d
+    → length g.edges ≤ MOST_EDGES → (terminals : List ℕ) → AreTerminals d terminals
+    → length terminals ≤ MOST_MEMBERS
+terminals_few g net same d dual few terminals t =
+    let own : IsDual net.graph (view_of net) d = subst (λ (z : Signed). IsDual z (view_of net) d) (sym same) dual in
+    let of_part : ℕ → Bool = λ f. slice_index d.part f == t.part in
+    let odd : ℕ → Bool = is_odd_face net (keeps net) in
+    omega (
+      arith,
+      length_permutation (filter of_part d.odd) terminals t.are,
+      length-filter of_part d.odd,
+      count_by-le-length of_part d.odd,
+      odd_named_most net d own,
+      length-filter odd (range_with_len 0 (dart_count net)),
+      count_by-le-length odd (range_with_len 0 (dart_count net)),
+      length-range_with_len 0 (dart_count net),
+      ap (λ (z : Signed). length z.edges) same,
+      few,
+      darts_fit,
+    )
+
+pub terminal_seats : (d : Dual) (terminals : List ℕ) → CameFromDual d → AreTerminals d terminals
+    → length terminals ≤ MOST_MEMBERS → AreSeats d terminals
 terminal_seats d terminals c t few = record {
   few = few;
   inside = λ i y l. (terminal_facts d terminals c t i y l).0;

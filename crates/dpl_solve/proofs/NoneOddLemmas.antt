@@ -17,7 +17,7 @@ use Rattle.dpl_map.specs.Planes.{joined_bit}
 use Rattle.dpl_colour.specs.Meets.{is_joined, bits_on}
 use Rattle.dpl_dual.specs.Duals.{odd_numbers}
 use Rattle.dpl_solve.specs.Optimum.{MakeSolution}
-use Rattle.dpl_solve.proofs.NamedLemmas.{none_odd, none_together}
+use Rattle.dpl_solve.proofs.NamedLemmas.{none_odd}
 
 sum_zeros : (p : ℕ → Bool) (w : ℕ → ℕ) (n : ℕ) → ((e : ℕ) → w e ≡ 0) → sum_on p w n ≡ 0
 sum_zeros p w zero h = refl
@@ -47,7 +47,6 @@ made_here net n same none joined is =
     let m = view_of n in
     let off : (e : ℕ) → is_joined joined e ≡ false = λ e. ap (λ z. get_or z e false) is ∙ repeated (length g.edges) e false in
     let bit_off : (e : ℕ) → joined_bit joined e ≡ 0 = λ e. cond-false {A = ℕ} (is_joined joined e) 1 0 (off e) in
-    let here : odd_numbers g (view_of net) ≡ [] = subst (λ (z : Net). odd_numbers g (view_of z) ≡ []) same none in
     record {
       places = ap (λ (z : List Bool). length z) is ∙ length-replicate (length g.edges) false;
       meets = record {
@@ -67,7 +66,6 @@ made_here net n same none joined is =
       kept = All-nil (λ (c : Cycle). All (λ e. is_kept m (2 * e) ≡ true) c.walk.edges);
       once = All-nil (λ (c : Cycle). (e : ℕ) → count_by (λ x. x == e) c.walk.edges ≤ 1);
       light = omega (arith, sum_over_none (is_joined joined) (λ e. (edge_at g e).weight) (length g.edges) off);
-      parts = λ faces t. omega (arith, ap (λ (z : List ℕ). length z) (none_together net here faces t));
       few = omega arith;
     }
 

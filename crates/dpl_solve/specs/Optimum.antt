@@ -1,6 +1,5 @@
 -- All parts of the dual, and the optimum.
-use Rattle.std.specs.Prelude.{◌≡◌, ℕ, ◌+◌, ◌*◌, ◌%◌, ◌<◌, ◌≤◌, ◌⊎◌, Bool, List, [], length, map, take, slice_index_or, All}
-use Rattle.dpl_limits.specs.declared.TheConstants.{MOST_ODD_FACES}
+use Rattle.std.specs.Prelude.{◌≡◌, ℕ, ◌+◌, ◌*◌, ◌%◌, ◌<◌, ◌≤◌, Bool, List, length, map, take, All}
 use Rattle.dpl_sign.specs.declared.graphs.Signed.{Signed}
 use Rattle.dpl_sign.specs.declared.nets.Net.{Net}
 use Rattle.dpl_sign.specs.Drawings.{face_count}
@@ -13,10 +12,10 @@ use Rattle.dpl_dual.specs.declared.crosses.Dual.{Dual}
 use Rattle.dpl_solve.specs.declared.drawn.Drawn.{Drawn}
 use Rattle.dpl_solve.specs.declared.work.Work.{Work}
 use Rattle.dpl_flood.specs.Flips.{all_ways, times}
-use Rattle.dpl_solve.specs.Parts.{Part, IsPart, IsPaired, all_cycles, all_chains, odd_of}
+use Rattle.dpl_solve.specs.Parts.{Part, IsPart, IsPaired, all_cycles, all_chains}
 use Rattle.dpl_solve.specs.Groups.{numbers_of}
 use Rattle.dpl_solve.specs.Tight.{PassKept, joined_weight}
-use Rattle.dpl_solve.specs.Named.{keeps, odd_faces, AreOddTogether}
+use Rattle.dpl_solve.specs.Named.{keeps, odd_faces}
 use Rattle.dpl_solve.specs.Solved.{PassOnce}
 
 -- the parts of the first n groups are solved
@@ -50,15 +49,4 @@ pub record MakeSolution (net : Net) (m : MapView) (joined : List Bool)
   pub kept : PassKept m cycles
   pub once : PassOnce cycles
   pub light : 2 * joined_weight net.graph joined ≤ bound_of cycles
-  pub parts : (faces : List ℕ) → AreOddTogether net faces → length faces ≤ MOST_ODD_FACES
   pub few : length cycles ≤ face_count net (keeps net) + 2 * length (odd_faces net)
-
--- no part has more odd faces, and some part has as many
-pub record IsMostOdd (d : Dual) (n : ℕ) : Type 0 where
-  pub most : (q : ℕ) → length (odd_of d q) ≤ n
-  pub some : (q : ℕ) × (length (odd_of d q) ≡ n)
-
--- the greatest length of the first n groups
-pub record IsGreatest (groups : List (List ℕ)) (n most : ℕ) : Type 0 where
-  pub each : (j : ℕ) → j < n → length (slice_index_or groups j []) ≤ most
-  pub some : (most ≡ 0) ⊎ ((j : ℕ) × (j < n) × (length (slice_index_or groups j []) ≡ most))

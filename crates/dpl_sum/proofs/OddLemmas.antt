@@ -17,12 +17,12 @@ use Rattle.dpl_parts.specs.Parts.{IsPartOf, dart, face_at}
 use Rattle.dpl_parts.specs.Shares.{Part, ShareOut}
 use Rattle.dpl_parts.proofs.Darts.{dart_apart}
 use Rattle.dpl_parts.proofs.Kept.{keeps_alike}
-use Rattle.dpl_parts.proofs.Linked.{links_alike, links_stay}
+use Rattle.dpl_parts.proofs.Linked.{links_stay}
 use Rattle.dpl_parts.proofs.Shared.{dart_held, not_odd, odd_up}
 use Rattle.dpl_parts.proofs.Sums.{sums_to}
 use Rattle.dpl_parts.proofs.Together.{face_name_up, face_name_down}
-use Rattle.dpl_solve.specs.Named.{keeps, odd_faces, AreOddTogether}
-use Rattle.dpl_sum.specs.Solved.{AreInOne}
+use Rattle.dpl_solve.specs.Named.{keeps, odd_faces}
+use Rattle.dpl_sum.specs.Solved.{AreOddTogether, AreInOne}
 
 -- ---- how many odd faces there are
 
@@ -86,42 +86,7 @@ module _ (p : Part) (whole : Net) (h : IsPartOf p.net whole p.node p.edge) where
       let there : dart p.edge x ≡ dart p.edge d = ap (dart p.edge) (sym nx) ∙ sym (face_name_up p whole h x lx) ∙ at in
       subst (AreOfOnePart p.net (keeps p.net) c) (dart_apart p.net whole p.node p.edge h x d lx m there) way
 
-  link_up : (c d : ℕ) → c < dart_count p.net → d < dart_count p.net → face_at p.net c ≡ c → face_at p.net d ≡ d →
-      AreOfOnePart p.net (keeps p.net) c d → AreOfOnePart whole (keeps whole) (dart p.edge c) (dart p.edge d)
-  link_up c d l m nc nd linked =
-      let uc : face_at whole (dart p.edge c) ≡ dart p.edge c = face_name_up p whole h c l ∙ ap (dart p.edge) nc in
-      let ud : face_at whole (dart p.edge d) ≡ dart p.edge d = face_name_up p whole h d m ∙ ap (dart p.edge) nd in
-      subst (λ z. AreOfOnePart whole (keeps whole) z (dart p.edge d)) uc
-      (subst (AreOfOnePart whole (keeps whole) (face_at whole (dart p.edge c))) ud
-      (links_alike p.net whole p.node p.edge h c d linked))
-
-  -- odd faces of the part that are together are so in the whole
-  pub together_up : (own : List ℕ) → AreOddTogether p.net own → AreOddTogether whole (map (dart p.edge) own)
-  together_up own o =
-      let f : ℕ → ℕ = dart p.edge in
-      let size = length-map own f in
-      let low : (k d : ℕ) → k < length own → slice_index_or own k d < dart_count p.net =
-      λ k d l. odd_low p.net (keeps p.net) (slice_index_or own k d) (o.odd k d l) in
-      let name : (k d : ℕ) → k < length own → face_at p.net (slice_index_or own k d) ≡ slice_index_or own k d =
-      λ k d l. odd_name p.net (keeps p.net) (slice_index_or own k d) (o.odd k d l) in record {
-        odd = λ k d l.
-            let m : k < length own = omega (arith, l, size) in
-            ap (is_odd_face whole (keeps whole)) (get_or-map f own k 0 d m) ∙ odd_is (slice_index_or own k 0) (low k 0 m) ∙ o.odd k 0 m;
-        apart = λ i j d s l.
-            let m : j < length own = omega (arith, l, size) in
-            let n : i < length own = omega (arith, m, s) in
-            λ e. o.apart i j 0 s m (dart_apart p.net whole p.node p.edge h _ _ (low i 0 n) (low j 0 m)
-            (sym (get_or-map f own i 0 d n) ∙ e ∙ get_or-map f own j 0 d m));
-        linked = λ i j d s l.
-            let m : j < length own = omega (arith, l, size) in
-            let n : i < length own = omega (arith, m, s) in
-            let up = link_up (slice_index_or own i 0) (slice_index_or own j 0) (low i 0 n) (low j 0 m) (name i 0 n) (name j 0 m) (o.linked i j 0 s m) in
-            subst (λ z. AreOfOnePart whole (keeps whole) z (slice_index_or (map f own) j d))
-            (sym (get_or-map f own i 0 d n)) (subst (AreOfOnePart whole (keeps whole) (f (slice_index_or own i 0)))
-            (sym (get_or-map f own j 0 d m)) up);
-      }
-
-  -- and those of the whole that are darts of the part are so in it
+  -- odd faces of the whole that are together, and darts of the part, are so in it
   pub together_down : (own : List ℕ) → All (λ c. c < dart_count p.net) own → AreOddTogether whole (map (dart p.edge) own) → AreOddTogether p.net own
   together_down own low o =
       let f : ℕ → ℕ = dart p.edge in
@@ -191,15 +156,3 @@ in_one whole parts h f faces o =
       first_low : (p : Part) (x : ℕ) → x < dart_count p.net → (xs : List ℕ) → All (λ c. c < dart_count p.net) xs → All (λ c. c < dart_count p.net) (x ∷ xs)
       first_low p x l xs all zero d m = l
       first_low p x l xs all (suc k) d m = all k d (omega (arith, m))
-
--- no more odd faces are together in the whole than in some part
-pub most_sum : (whole : Net) (parts : List Part) → ShareOut whole parts → (n : ℕ)
-    → All (λ p. (faces : List ℕ) → AreOddTogether p.net faces → length faces ≤ n) parts → (faces : List ℕ)
-    → AreOddTogether whole faces → length faces ≤ n
-most_sum whole parts h n each [] o = omega arith
-most_sum whole parts h n each (f ∷ faces) o =
-    let s = in_one whole parts h f faces o in
-    let few = All-contains (λ p. (faces : List ℕ) → AreOddTogether p.net faces → length faces ≤ n) parts s.part each s.among s.own s.together in
-    let size = length-map s.own (dart s.part.edge) in
-    let same = ap length s.are in
-    omega (arith, few, size, same)

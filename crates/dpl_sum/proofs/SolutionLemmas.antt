@@ -1,10 +1,8 @@
 -- Solutions of the parts are a solution of the whole.
-use Rattle.std.proofs.Common.{arith, ◌≡◌, ℕ, suc, ◌+◌, ◌*◌, ◌^◌, ◌<◌, ◌≤◌, refl, sym, ap, subst, ◌∙◌, Bool, true, List, [], ◌∷◌, length, map}
-use Rattle.std.specs.Prelude.{All, Contains, sum_by, slice_index_or}
-use Rattle.std.proofs.lemmas.List.{length-map}
+use Rattle.std.proofs.Common.{arith, ◌≡◌, ℕ, suc, ◌+◌, ◌*◌, ◌^◌, ◌<◌, ◌≤◌, refl, sym, subst, ◌∙◌, Bool, true, List, [], ◌∷◌, length}
+use Rattle.std.specs.Prelude.{All, sum_by, slice_index_or}
 use Rattle.std.proofs.lemmas.List.Sums.{sum_by-cons}
-use Rattle.std.proofs.lemmas.List.Elements.{All-map, All-contains}
-use Rattle.dpl_limits.specs.declared.TheConstants.{MOST_ODD_FACES}
+use Rattle.std.proofs.lemmas.List.Elements.{All-map}
 use Rattle.dpl_sign.specs.declared.nets.Net.{Net}
 use Rattle.dpl_sign.specs.declared.walks.Cycle.{Cycle}
 use Rattle.dpl_sign.specs.Colourings.{cost_of}
@@ -14,17 +12,17 @@ use Rattle.dpl_cycle.specs.Sums.{count_on}
 use Rattle.dpl_sign.specs.Excess.{all_edges, aside_edges, excess}
 use Rattle.dpl_sign.specs.Packings.{bound_of}
 use Rattle.dpl_sign.proofs.WalkLemmas.{bound_small}
-use Rattle.dpl_parts.specs.Parts.{IsPartOf, dart, broken_on}
+use Rattle.dpl_parts.specs.Parts.{broken_on}
 use Rattle.dpl_parts.specs.Shares.{Part, ShareOut, AgreeWith, all_cycles}
 use Rattle.dpl_parts.proofs.Kept.{keeps_alike}
 use Rattle.dpl_parts.proofs.Shared.{sum_by_twice, cost_sum, broken_sum, faces_sum, odd_sum, kept_alike}
 use Rattle.dpl_parts.proofs.Packed.{walk_inside, all_have, bound_sum, count_sum, packing_sum, once_sum}
 use Rattle.dpl_parts.proofs.Together.{colouring_sum}
-use Rattle.dpl_solve.specs.Named.{keeps, odd_faces, AreOddTogether}
-use Rattle.dpl_solve.specs.Solved.{IsSolution, IsRefused, KeepToKept, kept_cost, aside_cost}
+use Rattle.dpl_solve.specs.Named.{keeps, odd_faces}
+use Rattle.dpl_solve.specs.Solved.{IsSolution, KeepToKept, kept_cost, aside_cost}
 use Rattle.dpl_solve.proofs.FinishLemmas.{cost_parted}
-use Rattle.dpl_sum.specs.Solved.{IsSolved, HasAtMost, IsRefusedIn}
-use Rattle.dpl_sum.proofs.OddLemmas.{odd_counted, together_up, in_one, most_sum}
+use Rattle.dpl_sum.specs.Solved.{IsSolved}
+use Rattle.dpl_sum.proofs.OddLemmas.{odd_counted}
 use Rattle.dpl_list.proofs.Sums.{sum_by_alike, sum_by_two}
 
 -- a solution says its own numbers
@@ -40,7 +38,6 @@ as_solved p cost aside excess' bound s = record {
   tight = sym s.bound_is ∙ s.tight;
   rest = sym s.cost_is ∙ s.rest;
   once = s.once;
-  parts = s.parts;
   few = s.few;
 }
 
@@ -118,23 +115,8 @@ module _ (whole : Net) (parts : List Part) (h : ShareOut whole parts) (solved : 
     tight = tight_sum colours agree;
     rest = cost_parted whole colours;
     once = once_sum whole parts h (λ k d l. (solved k d l).packing) (λ k d l. (solved k d l).once);
-    parts = most_sum whole parts h MOST_ODD_FACES (λ k d l. (solved k d l).parts);
     few = few_sum;
   }
-
--- where a part is refused, and none has more odd faces in one part of its dual, the whole is refused so too
-pub refused_sum : (whole : Net) (parts : List Part) → ShareOut whole parts → (n : ℕ)
-    → All (λ p. HasAtMost p.net n) parts → (p : Part) → Contains parts p → IsRefused p.net n
-    → IsRefused whole n
-refused_sum whole parts h n each p among r = record {
-  many = r.many;
-  most = record {
-    faces = map (dart p.edge) r.most.faces;
-    are = together_up p whole (All-contains (λ p. IsPartOf p.net whole p.node p.edge) parts p h.are among) r.most.faces r.most.are;
-    count = length-map r.most.faces (dart p.edge) ∙ r.most.count;
-    most = most_sum whole parts h n each;
-  };
-}
 
 -- the same solution by numbers that are the same
 pub restated : (net : Net) (colours : List Bool) (cost cost' : ℕ) (aside aside' : List ℕ)
@@ -154,7 +136,6 @@ restated net colours cost cost' aside aside' excess' excess'' cycles cycles' bou
       tight = eb ∙ s.tight;
       rest = ec ∙ s.rest;
       once = s.once;
-      parts = s.parts;
       few = s.few;
     })
 
@@ -163,34 +144,3 @@ bound_low net parts h solved =
     let p = packing_sum net parts h (λ k d l. (solved k d l).packing) in
     let b = bound_small net.graph (all_cycles parts) p.odd p.within in
     omega (arith, b)
-
--- and where the whole is refused some part is
-pub refused_in : (whole : Net) (parts : List Part) → ShareOut whole parts → (n : ℕ) → IsRefused whole n → IsRefusedIn parts n
-refused_in whole parts h n r = some_face r.most.faces r.most.are r.most.count where
-  at_most : All (λ p. HasAtMost p.net n) parts
-  at_most k d l faces o =
-      let p = slice_index_or parts k d in
-      let m = r.most.most (map (dart p.edge) faces) (together_up p whole (h.are k d l) faces o) in
-      let size = length-map faces (dart p.edge) in
-      omega (arith, m, size)
-
-  some_face : (faces : List ℕ) → AreOddTogether whole faces → length faces ≡ n → IsRefusedIn parts n
-  some_face [] o c = let m = r.many in absurd (omega (arith, c, m))
-  some_face (f ∷ faces) o c =
-      let s = in_one whole parts h f faces o in
-      let size = length-map s.own (dart s.part.edge) in
-      let same = ap length s.are in
-      record {
-        part = s.part;
-        among = s.among;
-        refused = record {
-          many = r.many;
-          most = record {
-            faces = s.own;
-            are = s.together;
-            count = omega (arith, size, same, c);
-            most = All-contains (λ p. HasAtMost p.net n) parts s.part at_most s.among;
-          };
-        };
-        at_most = at_most;
-      }

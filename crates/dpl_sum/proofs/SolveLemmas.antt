@@ -1,24 +1,19 @@
 -- Parts solved one after another, and the net that they share out.
-use Rattle.std.proofs.Common.{arith, ◌≡◌, ◌⊎◌, ℕ, zero, suc, ◌-◌, ◌<◌, ◌≤◌, max, inl, inr, List, [], ◌∷◌, ◌++◌, length}
-use Rattle.std.proofs.Common.{map, refl, sym, ap, subst, ◌∙◌, length-append}
-use Rattle.std.specs.Prelude.{All, Contains, slice_index_or, IfOk, Result, Ok, Err}
-use Rattle.std.proofs.lemmas.Bool.{cases_eq, cases_lt}
-use Rattle.std.proofs.lemmas.List.{append-nil, append_assoc, map-append, length-map, get_or-map, get_or_push}
+use Rattle.std.proofs.Common.{arith, ◌≡◌, ℕ, zero, suc, ◌-◌, ◌<◌, ◌≤◌, inl, inr, List, [], ◌∷◌, ◌++◌, length}
+use Rattle.std.proofs.Common.{map, refl, sym, ap, subst, ◌∙◌}
+use Rattle.std.specs.Prelude.{All, Contains, slice_index_or}
+use Rattle.std.proofs.lemmas.Bool.{cases_eq}
+use Rattle.std.proofs.lemmas.List.{append-nil, append_assoc, map-append, length-map, get_or-map}
 use Rattle.std.proofs.lemmas.List.Elements.{All-map, All-push}
 use Rattle.dpl_sign.specs.declared.nets.Net.{Net}
 use Rattle.dpl_parts.specs.declared.gathering.Gathered.{Gathered}
 use Rattle.dpl_parts.specs.Gathers.{part_of}
 use Rattle.dpl_parts.specs.Parts.{IsPartOf}
 use Rattle.dpl_parts.specs.Shares.{Part, AreApart, IsInSome, ShareOut}
-use Rattle.dpl_solve.specs.Solved.{IsSolution, IsRefused}
-use Rattle.dpl_solve.specs.declared.solving.SolveError.{SolveError}
-use Rattle.dpl_solve.specs.declared.solving.SolveError.TheVariants.{OddFaces, NoMemory}
-use Rattle.dpl_sum.specs.declared.solving.Solved.{Solved}
 use Rattle.dpl_sum.specs.declared.combining.SolvedPart.{SolvedPart}
 use Rattle.dpl_sum.specs.Laying.{solved_part}
-use Rattle.dpl_sum.specs.Solved.{IsSolved, HasAtMost}
-use Rattle.dpl_sum.specs.Solving.{part_in, IsOneRefused, AreRefused, AreSolvedTo}
-use Rattle.dpl_sum.proofs.SolutionLemmas.{refused_sum}
+use Rattle.dpl_sum.specs.Solved.{IsSolved}
+use Rattle.dpl_sum.specs.Solving.{part_in, AreSolvedTo}
 
 -- ---- a part has no more edges than the whole
 
@@ -129,80 +124,18 @@ share_solved whole parts solved h e = share_bare whole solved (subst (ShareOut w
 pub all_solved : (solved : List SolvedPart) → All (λ s. IsSolved (solved_part s)) solved → All IsSolved (map solved_part solved)
 all_solved solved h = All-map IsSolved solved_part solved h
 
-pub refused_all : (whole : Net) (parts : List Gathered) (n : ℕ) → ShareOut whole (map part_of parts) → AreRefused parts n → IsRefused whole n
-refused_all whole parts n h r = found r.one.among where
-  found : Contains parts r.one.part → IsRefused whole n
-  found (k, l, e) =
-      let size = length-map parts part_of in
-      refused_sum whole (map part_of parts) h n (All-map (λ p. HasAtMost p.net n) part_of parts r.at_most)
-      (part_of r.one.part) (
-        k,
-        omega (arith, l, size),
-        get_or-map part_of parts k r.one.part (part_of r.one.part) l ∙ ap part_of e,
-      ) r.one.refused
-
 -- ---- one part after another
 
-pub none_yet : AreSolvedTo [] [] 0
-none_yet = record {
-  each = λ k d l. absurd (omega (arith, l));
-  all = λ e. refl;
-  low = λ n m l k d b. absurd (omega (arith, b));
-  some = λ l. absurd (omega (arith, l));
-}
+pub none_yet : AreSolvedTo [] []
+none_yet = record { each = λ k d l. absurd (omega (arith, l)); all = refl }
 
-front_at : {X : Type 0} (xs ys : List X) (k : ℕ) (d : X) → k < length xs → slice_index_or (xs ++ ys) k d ≡ slice_index_or xs k d
-front_at [] ys k d l = absurd (omega (arith, l))
-front_at (x ∷ xs) ys zero d l = refl
-front_at (x ∷ xs) ys (suc k) d l = front_at xs ys k d (omega (arith, l))
-
-one_more : (parts : List Gathered) (p : Gathered) (n : ℕ) → IsOneRefused parts n → IsOneRefused (parts ++ p ∷ []) n
-one_more parts p n r = found r.among where
-  found : Contains parts r.part → IsOneRefused (parts ++ p ∷ []) n
-  found (k, l, e) =
-      let size = length-append parts (p ∷ []) in
-      record { part = r.part; among = (k, omega (arith, l, size), front_at parts (p ∷ []) k r.part l ∙ e); refused = r.refused }
-
-pub one_solved : (parts : List Gathered) (solved new : List SolvedPart) (most : ℕ) (p : Gathered) (s : SolvedPart)
-    → AreSolvedTo parts solved most → s.part ≡ p → IsSolved (solved_part s) → new ≡ solved ++ s ∷ []
-    → AreSolvedTo (parts ++ p ∷ []) new most
-one_solved parts solved new most p s h e own is = subst (λ zs. AreSolvedTo (parts ++ p ∷ []) zs most) (sym is) (record {
+pub one_solved : (parts : List Gathered) (solved new : List SolvedPart) (p : Gathered) (s : SolvedPart)
+    → AreSolvedTo parts solved → s.part ≡ p → IsSolved (solved_part s) → new ≡ solved ++ s ∷ []
+    → AreSolvedTo (parts ++ p ∷ []) new
+one_solved parts solved new p s h e own is = subst (AreSolvedTo (parts ++ p ∷ [])) (sym is) (record {
   each = All-push (λ z. IsSolved (solved_part z)) solved s h.each own;
-  all = λ z. map-append part_in solved (s ∷ []) ∙ ap (λ zs. zs ++ part_in s ∷ []) (h.all z) ∙ ap (λ z. parts ++ z ∷ []) e;
-  low = λ n m l.
-      let few : HasAtMost s.part.net n = λ faces o. let f = own.parts faces o in omega (arith, f, m) in
-      All-push (λ z. HasAtMost z.net n) parts p (h.low n m l) (subst (λ (z : Gathered). HasAtMost z.net n) e few);
-  some = λ l. one_more parts p most (h.some l);
+  all = map-append part_in solved (s ∷ []) ∙ ap (λ zs. zs ++ part_in s ∷ []) h.all ∙ ap (λ z. parts ++ z ∷ []) e;
 })
-
-pub one_refused : (parts : List Gathered) (solved : List SolvedPart) (most new count : ℕ) (p : Gathered)
-    → AreSolvedTo parts solved most → IsRefused p.net count → new ≡ max most count
-    → AreSolvedTo (parts ++ p ∷ []) solved new
-one_refused parts solved most new count p h r is =
-    let many = r.many in record {
-      each = h.each;
-      all = λ z. absurd (omega (arith, z, is, many));
-      low = λ n m l.
-          let few : HasAtMost p.net n = λ faces o. let f = r.most.most faces o in omega (arith, f, is, l) in
-          All-push (λ z. HasAtMost z.net n) parts p (h.low n m (omega (arith, l, is))) few;
-      some = λ l. elim (cases_lt most count) [
-        | inl low ↦
-            let same : count ≡ new = omega (arith, is, low) in
-            let size = length-append parts (p ∷ []) in
-            let end = get_or_push parts p p (length parts) refl in
-            let r' : IsOneRefused (parts ++ p ∷ []) count = record { part = p; among = (length parts, omega (arith, size), end); refused = r } in
-            subst (IsOneRefused (parts ++ p ∷ [])) same r'
-        | inr far ↦
-            let same : most ≡ new = omega (arith, is, far) in
-            subst (IsOneRefused (parts ++ p ∷ [])) same (one_more parts p most (h.some (omega (arith, far, many))))
-      ];
-    }
-
-pub are_refused : (parts : List Gathered) (solved : List SolvedPart) (most : ℕ) → AreSolvedTo parts solved most → 0 < most → AreRefused parts most
-are_refused parts solved most h l =
-    let one = h.some l in
-    let many = one.refused.many in
-    record { one = one; at_most = h.low most (omega (arith, many)) (omega arith) }
 
 -- ---- the list that is gone through
 
@@ -216,21 +149,3 @@ ended xs (y ∷ rest) all e z = absurd (omega (arith, z))
 
 pub one_on : {X : Type 0} (xs rest more all : List X) (y : X) → xs ++ rest ≡ all → rest ≡ y ∷ more → (xs ++ y ∷ []) ++ more ≡ all
 one_on xs rest more all y e r = append_assoc xs (y ∷ []) more ∙ ap (λ zs. xs ++ zs) (sym r) ∙ e
-
--- ---- refused exactly
-
-pub exact_again : (net : Net) (r : Result Solved SolveError)
-    → IfOk r (λ s. IsSolution net s.solution.colours.items s.solution.cost s.solution.aside s.solution.excess s.solution.cycles s.solution.bound)
-    → ((n : ℕ) → r ≡ Err (OddFaces n) → IsRefused net n) → (n : ℕ) → IsRefused net n
-    → (r ≡ Err (OddFaces n)) ⊎ (r ≡ Err NoMemory)
-exact_again net (Ok s) solved refused n h = let f = solved.parts h.most.faces h.most.are in let c = h.most.count in
-    let m = h.many in absurd (omega (arith, m, f, c))
-exact_again net (Err (OddFaces k)) solved refused n h =
-    let o = refused k refl in
-    let a = o.most.most h.most.faces h.most.are in
-    let b = h.most.most o.most.faces o.most.are in
-    let c = h.most.count in
-    let d = o.most.count in
-    let same : k ≡ n = omega (arith, a, b, c, d) in
-    inl (ap (λ (z : ℕ). Err (OddFaces z)) same)
-exact_again net (Err NoMemory) solved refused n h = inr refl

@@ -1,19 +1,18 @@
 // What holds of the solutions of a net and of the parts that share it out.
-ghost use Rattle.std.specs.Prelude.{◌≡◌, ℕ, Bool, List, ◌∷◌, length, sum_by, All, Contains};
+ghost use Rattle.std.specs.Prelude.{◌≡◌, ℕ, Bool, List, ◌∷◌, length, sum_by, All};
 ghost use Rattle.dpl_sign.specs.declared.nets.Net.{Net};
 ghost use Rattle.dpl_sign.specs.declared.walks.Cycle.{Cycle};
 ghost use Rattle.dpl_sign.specs.Colourings.{cost_of};
 ghost use Rattle.dpl_sign.specs.Excess.{all_edges, aside_edges, excess};
 ghost use Rattle.dpl_sign.specs.Packings.{bound_of};
 ghost use Rattle.dpl_parts.specs.Shares.{Part, ShareOut, AgreeWith, all_cycles};
-ghost use Rattle.dpl_solve.specs.Named.{odd_faces, AreOddTogether};
-ghost use Rattle.dpl_solve.specs.Solved.{IsSolution, IsRefused, aside_cost, kept_cost};
-ghost use Rattle.dpl_sum.specs.Solved.{IsSolved, HasAtMost, AreInOne, AreSameNets, IsRefusedIn};
+ghost use Rattle.dpl_solve.specs.Named.{odd_faces};
+ghost use Rattle.dpl_solve.specs.Solved.{IsSolution, aside_cost, kept_cost};
+ghost use Rattle.dpl_sum.specs.Solved.{IsSolved, AreOddTogether, AreInOne, AreSameNets};
 
 /// Solutions of parts that share out a net are a solution of the net: their colours, and their cycles behind one
-/// another. Odd faces in one part of its dual are so in one of the parts; so the net is refused where a part is refused
-/// and none has more of them, and where it is refused a part is. A solution stays one where nodes, edges and ports are
-/// the same. Facts about the definitions; nothing runs.
+/// another. Odd faces in one part of its dual are so in one of the parts. A solution stays one where nodes, edges and
+/// ports are the same. Facts about the definitions; nothing runs.
 pub fn solutions_add_up()
     ensures solved { (whole : Net) (parts : List Part) → ShareOut whole parts → All IsSolved parts →
         (colours : List Bool) → length colours ≡ whole.graph.nodes → AgreeWith colours parts →
@@ -29,13 +28,8 @@ pub fn solutions_add_up()
         length (odd_faces whole) ≡ sum_by (λ p. length (odd_faces p.net)) parts }
     ensures in_one { (whole : Net) (parts : List Part) → ShareOut whole parts →
         (f : ℕ) (faces : List ℕ) → AreOddTogether whole (f ∷ faces) → AreInOne parts (f ∷ faces) }
-    ensures refused { (whole : Net) (parts : List Part) → ShareOut whole parts →
-        (n : ℕ) → All (λ p. HasAtMost p.net n) parts →
-        (part : Part) → Contains parts part → IsRefused part.net n → IsRefused whole n }
     ensures stays { (old new : Net) → AreSameNets old new → (colours : List Bool) (cost : ℕ)
         (aside : List ℕ) (excess' : ℕ) (cycles : List Cycle) (bound : ℕ) →
         IsSolution old colours cost aside excess' cycles bound →
         IsSolution new colours cost aside excess' cycles bound }
-    ensures refuses { (whole : Net) (parts : List Part) → ShareOut whole parts →
-        (n : ℕ) → IsRefused whole n → IsRefusedIn parts n }
 {}

@@ -1,31 +1,27 @@
 // The optimum of a net, one component after another.
-ghost use Rattle.std.specs.Prelude.{◌≡◌, ◌⊎◌, ℕ, ◌<◌, ◌≤◌, max, length, map, slice_index_or, All, IfOk, IsTrue, Err};
+ghost use Rattle.std.specs.Prelude.{◌≡◌, ◌<◌, ◌≤◌, length, map, slice_index_or, All, IfOk, IsTrue};
 ghost use Rattle.dpl_limits.specs.declared.TheConstants.{MOST_EDGES};
-ghost use Rattle.dpl_solve.specs.Solved.{IsSolution, IsRefused};
+ghost use Rattle.dpl_solve.specs.Solved.{IsSolution};
 ghost use Rattle.dpl_sum.specs.Laying.{solved_part};
 ghost use Rattle.dpl_sum.specs.declared.combining.SolvedPart.{SolvedPart};
-ghost use Rattle.dpl_sum.specs.Solving.{part_in, AreRefused};
+ghost use Rattle.dpl_sum.specs.Solving.{part_in};
 ghost use Rattle.dpl_sum.specs.Solved.{IsSolved, AreSameNets};
 
 use crate::combining::{SolvedPart, combine, number_at};
 use crate::comparing::{are_same, copy_solution};
 use dpl_parts::{Gathered, split};
 use dpl_sign::Net;
-use dpl_solve::{Solution, SolveError};
+use dpl_solve::Solution;
 use std::alloc::{AllocError as NoMemory, Global};
 
 /// An optimum of some components by themselves.
-fn solve_part(alloc: Global, part: Gathered) -> Result<SolvedPart, SolveError>
+fn solve_part(alloc: Global, part: Gathered) -> Result<SolvedPart, NoMemory>
     requires edges { length part.net.graph.edges ≤ MOST_EDGES }
     ensures part { IfOk result (λ s. s.part ≡ part) }
     ensures solved { IfOk result (λ s. IsSolved (solved_part s)) }
-    ensures refused { (n : ℕ) → result ≡ Err (SolveError.OddFaces n) → IsRefused part.net n }
 {
-    match dpl_solve::solve(alloc, &part.net) {
-        Ok(solution) => Ok(SolvedPart { part, solution }),
-        Err(SolveError::OddFaces(count)) => Err(SolveError::OddFaces(count)),
-        Err(SolveError::NoMemory) => Err(SolveError::NoMemory),
-    }
+    let solution = dpl_solve::solve(alloc, &part.net)?;
+    Ok(SolvedPart { part, solution })
 }
 
 /// Whether there is a known part at this place, with a net that is the same.
@@ -58,20 +54,16 @@ fn reuse_or_solve(
     part: Gathered,
     known: &[SolvedPart],
     place: usize,
-) -> Result<SolvedPart, SolveError>
+) -> Result<SolvedPart, NoMemory>
     requires edges { length part.net.graph.edges ≤ MOST_EDGES }
     requires known { All (λ s. IsSolved (solved_part s)) known.now }
     ensures part { IfOk result (λ s. s.part ≡ part) }
     ensures solved { IfOk result (λ s. IsSolved (solved_part s)) }
-    ensures refused { (n : ℕ) → result ≡ Err (SolveError.OddFaces n) → IsRefused part.net n }
 {
     if !is_known(known, place, &part) {
         return solve_part(alloc, part);
     }
-    match reused(alloc, part, &known[place]) {
-        Ok(solved) => Ok(solved),
-        Err(_) => Err(SolveError::NoMemory),
-    }
+    reused(alloc, part, &known[place])
 }
 
 /// The place that is noted for the first node of a part.
@@ -80,42 +72,23 @@ fn place_for(part: &Gathered, places: &[u32]) -> usize {
     number_at(places, first as usize) as usize
 }
 
-fn greater(a: u32, b: u32) -> u32
-    ensures { result ≡ max a b }
-{
-    a.max(b)
-}
-
-/// Optima of all parts. Where one is refused, this is for the greatest number for which any is.
+/// Optima of all parts.
 fn solve_all(
     alloc: Global,
     parts: Vec<Gathered>,
     known: &[SolvedPart],
     places: &[u32],
-) -> Result<Vec<SolvedPart>, SolveError>
+) -> Result<Vec<SolvedPart>, NoMemory>
     requires edges { All (λ p. length p.net.graph.edges ≤ MOST_EDGES) parts.items }
     requires known { All (λ s. IsSolved (solved_part s)) known.now }
     ensures parts { IfOk result (λ v. map part_in v.items ≡ parts.items) }
     ensures solved { IfOk result (λ v. All (λ s. IsSolved (solved_part s)) v.items) }
-    ensures refused { (n : ℕ) → result ≡ Err (SolveError.OddFaces n) → AreRefused parts.items n }
 {
     let mut solved = Vec::new(alloc);
-    let mut most = 0;
     for part in parts {
         let place = place_for(&part, places);
-        match reuse_or_solve(alloc, part, known, place) {
-            Ok(part) => {
-                match solved.push(part) {
-                    Ok(()) => {}
-                    Err(_) => return Err(SolveError::NoMemory),
-                }
-            }
-            Err(SolveError::OddFaces(count)) => most = greater(most, count),
-            Err(SolveError::NoMemory) => return Err(SolveError::NoMemory),
-        }
-    }
-    if most > 0 {
-        return Err(SolveError::OddFaces(most));
+        let one = reuse_or_solve(alloc, part, known, place)?;
+        solved.push(one)?;
     }
     Ok(solved)
 }
@@ -127,38 +100,6 @@ pub struct Solved {
     pub parts: Vec<SolvedPart>,
 }
 
-/// The optimum of a net that is split into its components.
-fn solve_split(
-    alloc: Global,
-    net: &Net,
-    known: &[SolvedPart],
-    places: &[u32],
-) -> Result<Solved, SolveError>
-    requires edges { length net.now.graph.edges ≤ MOST_EDGES }
-    requires known { All (λ s. IsSolved (solved_part s)) known.now }
-    ensures solved { IfOk result (λ r. IsSolution net.now r.solution.colours.items r.solution.cost
-        r.solution.aside r.solution.excess r.solution.cycles r.solution.bound) }
-    ensures parts { IfOk result (λ r. All (λ s. IsSolved (solved_part s)) r.parts.items) }
-    ensures refused { (n : ℕ) → result ≡ Err (SolveError.OddFaces n) → IsRefused net.now n }
-{
-    let parts = match split(alloc, net) {
-        Ok(parts) => parts,
-        Err(_) => return Err(SolveError::NoMemory),
-    };
-    let solved = match solve_all(alloc, parts, known, places) {
-        Ok(solved) => solved,
-        Err(SolveError::OddFaces(count)) => return Err(SolveError::OddFaces(count)),
-        Err(SolveError::NoMemory) => return Err(SolveError::NoMemory),
-    };
-    match combine(alloc, net, solved.as_slice()) {
-        Ok(solution) => Ok(Solved {
-            solution,
-            parts: solved,
-        }),
-        Err(_) => Err(SolveError::NoMemory),
-    }
-}
-
 /// The optimum of a net, found for each of its components by itself, with those of the components. Some may be known: for
 /// each node of the net `places` has the place among them of one that may be that of the node's component, and it is taken
 /// if its net is the same, so that only the others are solved.
@@ -167,44 +108,28 @@ pub fn solve_again(
     net: &Net,
     known: &[SolvedPart],
     places: &[u32],
-) -> Result<Solved, SolveError>
+) -> Result<Solved, NoMemory>
     requires edges { length net.now.graph.edges ≤ MOST_EDGES }
     requires known { All (λ s. IsSolved (solved_part s)) known.now }
     ensures solved { IfOk result (λ r. IsSolution net.now r.solution.colours.items r.solution.cost
         r.solution.aside r.solution.excess r.solution.cycles r.solution.bound) }
     ensures parts { IfOk result (λ r. All (λ s. IsSolved (solved_part s)) r.parts.items) }
-    ensures refused { (n : ℕ) → result ≡ Err (SolveError.OddFaces n) → IsRefused net.now n }
-    ensures exact { (n : ℕ) → IsRefused net.now n →
-        (result ≡ Err (SolveError.OddFaces n)) ⊎ (result ≡ Err SolveError.NoMemory) }
 {
-    solve_split(alloc, net, known, places)
-}
-
-/// The same where nothing is known, the optimum alone.
-fn solve_new(alloc: Global, net: &Net) -> Result<Solution, SolveError>
-    requires edges { length net.now.graph.edges ≤ MOST_EDGES }
-    ensures solved { IfOk result (λ s.
-        IsSolution net.now s.colours.items s.cost s.aside s.excess s.cycles s.bound) }
-    ensures refused { (n : ℕ) → result ≡ Err (SolveError.OddFaces n) → IsRefused net.now n }
-{
-    match solve_split(alloc, net, &[], &[]) {
-        Ok(solved) => {
-            let Solved { solution, parts: _ } = solved;
-            Ok(solution)
-        }
-        Err(SolveError::OddFaces(count)) => Err(SolveError::OddFaces(count)),
-        Err(SolveError::NoMemory) => Err(SolveError::NoMemory),
-    }
+    let parts = split(alloc, net)?;
+    let solved = solve_all(alloc, parts, known, places)?;
+    let solution = combine(alloc, net, solved.as_slice())?;
+    Ok(Solved {
+        solution,
+        parts: solved,
+    })
 }
 
 /// The optimum of a net, found for each of its components by itself.
-pub fn solve(alloc: Global, net: &Net) -> Result<Solution, SolveError>
+pub fn solve(alloc: Global, net: &Net) -> Result<Solution, NoMemory>
     requires edges { length net.now.graph.edges ≤ MOST_EDGES }
-    ensures solved { IfOk result (λ s.
+    ensures { IfOk result (λ s.
         IsSolution net.now s.colours.items s.cost s.aside s.excess s.cycles s.bound) }
-    ensures refused { (n : ℕ) → result ≡ Err (SolveError.OddFaces n) → IsRefused net.now n }
-    ensures exact { (n : ℕ) → IsRefused net.now n →
-        (result ≡ Err (SolveError.OddFaces n)) ⊎ (result ≡ Err SolveError.NoMemory) }
 {
-    solve_new(alloc, net)
+    let Solved { solution, parts: _ } = solve_again(alloc, net, &[], &[])?;
+    Ok(solution)
 }

@@ -4,7 +4,7 @@ ghost use Rattle.dpl_gen.specs.Layout.{layout};
 ghost use Rattle.dpl_report.specs.Plain.{plain_report};
 ghost use Rattle.dpl_report.specs.Valid.{IsReport};
 ghost use Rattle.dpl_layer.specs.Reasons.{FirstOf};
-ghost use Rattle.dpl_core.specs.Refusals.{split_reasons};
+ghost use Rattle.dpl_layer.specs.Refusals.{layer_reasons};
 ghost use Rattle.dpl_run.specs.due.Load.{IsLoaded, loaded_line, made_options};
 ghost use Rattle.dpl_run.specs.due.Made.{IsMade};
 ghost use Rattle.dpl_run.specs.Telling.{IsWorked};
@@ -24,7 +24,7 @@ pub fn load_made(alloc: Global, start: u64, rows: u32, columns: u32) -> Due
     requires start { start ≤ 10 ^ 12 }
     requires rows { (1 ≤ rows) × (rows ≤ 200) }
     requires columns { (1 ≤ columns) × (columns ≤ 200) }
-    ensures { IsWorked (IsMade (FirstOf (split_reasons made_options (layout start rows columns)))
+    ensures { IsWorked (IsMade (FirstOf (layer_reasons made_options (layout start rows columns)))
         (IsLoaded made_options (layout start rows columns))) result.status
         result.output.items }
 {

@@ -4,7 +4,7 @@ ghost use Rattle.std.specs.Prelude.{◌≡◌, ◌≤◌, [], length, IfOk, IfEr
 ghost use Rattle.dpl_limits.specs.declared.TheConstants.{MOST_LAYOUT_BYTES};
 ghost use Rattle.dpl_lex.specs.Cutting.{commands_of};
 ghost use Rattle.dpl_layer.specs.Reasons.{FirstOf};
-ghost use Rattle.dpl_core.specs.Refusals.{split_reasons};
+ghost use Rattle.dpl_layer.specs.Refusals.{layer_reasons};
 ghost use Rattle.dpl_core.specs.Reports.{IsSplit, IsBalancedSplit, IsRefinedSplit};
 ghost use Rattle.dpl_run.specs.due.Made.{IsMade};
 ghost use Rattle.dpl_run.specs.Errors.{status_of};
@@ -22,7 +22,7 @@ use std::alloc::Global;
 pub fn split_bytes(alloc: Global, options: &Options, text: &[u8], commands: &Commands) -> Due
     requires short { length text.now ≤ MOST_LAYOUT_BYTES }
     requires commands { commands.now ≡ commands_of text.now }
-    ensures { IsWorked (IsMade (FirstOf (split_reasons options.now text.now))
+    ensures { IsWorked (IsMade (FirstOf (layer_reasons options.now text.now))
         (IsSplit options.now text.now)) result.status result.output.items }
 {
     let made = split_commands(alloc, text, commands, options);
@@ -33,7 +33,7 @@ pub fn split_bytes(alloc: Global, options: &Options, text: &[u8], commands: &Com
 pub fn balance_bytes(alloc: Global, options: &Options, text: &[u8], commands: &Commands) -> Due
     requires short { length text.now ≤ MOST_LAYOUT_BYTES }
     requires commands { commands.now ≡ commands_of text.now }
-    ensures { IsWorked (IsMade (FirstOf (split_reasons options.now text.now))
+    ensures { IsWorked (IsMade (FirstOf (layer_reasons options.now text.now))
         (IsBalancedSplit options.now text.now)) result.status result.output.items }
 {
     let made = balance_commands(alloc, text, commands, options);
@@ -44,7 +44,7 @@ pub fn balance_bytes(alloc: Global, options: &Options, text: &[u8], commands: &C
 pub fn refine_bytes(alloc: Global, options: &Options, text: &[u8], commands: &Commands) -> Due
     requires short { length text.now ≤ MOST_LAYOUT_BYTES }
     requires commands { commands.now ≡ commands_of text.now }
-    ensures { IsWorked (IsMade (FirstOf (split_reasons options.now text.now))
+    ensures { IsWorked (IsMade (FirstOf (layer_reasons options.now text.now))
         (IsRefinedSplit options.now text.now)) result.status result.output.items }
 {
     let made = refine_commands(alloc, text, commands, options);

@@ -4,6 +4,3 @@ use Rattle.dpl_matching_tests.proofs.dual.dual_of.Goals as goal
 
 pub dual-requires : goal.dual-requires
 dual-requires c = ap (λ (z : Net). z.graph) c.in_ok-map.ensures
-
-pub returns : goal.returns
-returns c = (c.args.net.now.graph, c.in_ok-map.map, ap (λ (z : Net). z.graph) c.in_ok-map.ensures, c.in_ok-faces.ensures)

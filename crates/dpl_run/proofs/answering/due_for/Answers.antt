@@ -1,6 +1,5 @@
 use Rattle.std.proofs.Common.{arith, refl}
 use Rattle.dpl_limits.specs.declared.TheConstants.{MOST_LAYOUT_BYTES}
-use Rattle.dpl_words.specs.Views.{plain_command}
 use Rattle.dpl_run.specs.Inputs.{opens}
 use Rattle.dpl_run.specs.Answer.{DueOf}
 use Rattle.dpl_run.proofs.EndLemmas.{worked_bare, worked_limit, worked_no_fault, worked_status}
@@ -17,31 +16,31 @@ use Rattle.dpl_run.proofs.answering.due_for.Goals as goal
 
 pub returns-in-Err-clause-due : goal.returns-in-Err-clause-due
 returns-in-Err-clause-due g c = λ text other told.
-    layout_due (plain_command c.args.command.now) (g.S.Source.seen c.args.layout.now)
+    layout_due c.args.command.now (g.S.Source.seen c.args.layout.now)
     (g.S.Source.seen c.layout_for.new.layout) text other c.in-Err.status _ _
     (rw c.reads_layout.ensures at c.in-Err.ensures.stops) c.bare.ensures.status c.bare.ensures.output told.0
 
 pub returns-in-Err-clause-read : goal.returns-in-Err-clause-read
 returns-in-Err-clause-read g c =
-    layout_fault (plain_command c.args.command.now) (g.S.Source.seen c.args.layout.now)
+    layout_fault c.args.command.now (g.S.Source.seen c.args.layout.now)
     (g.S.Source.seen c.layout_for.new.layout) _ _ c.in-Err.status _
     (rw c.reads_layout.ensures at c.in-Err.ensures.stops) c.bare.ensures.status
 
 pub returns-in-Err-clause-limit : goal.returns-in-Err-clause-limit
 returns-in-Err-clause-limit g c = λ count.
-    layout_limit (plain_command c.args.command.now) (g.S.Source.seen c.args.layout.now)
+    layout_limit c.args.command.now (g.S.Source.seen c.args.layout.now)
     (g.S.Source.seen c.layout_for.new.layout) c.in-Err.status _ count
     (rw c.reads_layout.ensures at c.in-Err.ensures.stops) c.bare.ensures.status
 
 pub returns-in-Err-clause-report_limit : goal.returns-in-Err-clause-report_limit
 returns-in-Err-clause-report_limit g c = λ count.
-    layout_no_limit (plain_command c.args.command.now) (g.S.Source.seen c.args.layout.now)
+    layout_no_limit c.args.command.now (g.S.Source.seen c.args.layout.now)
     (g.S.Source.seen c.layout_for.new.layout) c.in-Err.status _ count _
     (rw c.reads_layout.ensures at c.in-Err.ensures.stops) c.bare.ensures.status
 
 pub returns-in-Err-clause-script_limit : goal.returns-in-Err-clause-script_limit
 returns-in-Err-clause-script_limit g c = λ count.
-    layout_no_script (plain_command c.args.command.now) (g.S.Source.seen c.args.layout.now)
+    layout_no_script c.args.command.now (g.S.Source.seen c.args.layout.now)
     (g.S.Source.seen c.layout_for.new.layout) c.in-Err.status _ count _
     (rw c.reads_layout.ensures at c.in-Err.ensures.stops) c.bare.ensures.status
 
@@ -53,7 +52,7 @@ returns-in-Err-clause-absent g c = λ a.
 pub returns-in-Err-clause-touched : goal.returns-in-Err-clause-touched
 returns-in-Err-clause-touched g c = (
   rw c.reads_layout.ensures at c.layout_for.ensures.touched,
-  untouched (opens (plain_command c.args.command.now)) (g.F.Source.seen c.args.second.now),
+  untouched (opens c.args.command.now) (g.F.Source.seen c.args.second.now),
 )
 
 pub returns-in-Err-clause-steady : goal.returns-in-Err-clause-steady
@@ -61,13 +60,13 @@ returns-in-Err-clause-steady g c = λ n m. (steady_stop _ _ c.in-Err.status _ c.
 
 pub returns-in-Err-clause-bare : goal.returns-in-Err-clause-bare
 returns-in-Err-clause-bare g c =
-    layout_bare (plain_command c.args.command.now) (g.S.Source.seen c.args.layout.now)
+    layout_bare c.args.command.now (g.S.Source.seen c.args.layout.now)
     (g.S.Source.seen c.layout_for.new.layout) c.in-Err.status _ _
     (rw c.reads_layout.ensures at c.in-Err.ensures.stops) c.bare.ensures.status c.bare.ensures.output
 
 pub returns-in-Err-clause-of_words : goal.returns-in-Err-clause-of_words
 returns-in-Err-clause-of_words g c =
-    layout_status (plain_command c.args.command.now) (g.S.Source.seen c.args.layout.now)
+    layout_status c.args.command.now (g.S.Source.seen c.args.layout.now)
     (g.S.Source.seen c.layout_for.new.layout) c.in-Err.status _
     (rw c.reads_layout.ensures at c.in-Err.ensures.stops) c.bare.ensures.status
 
@@ -75,7 +74,7 @@ returns-in-Err-clause-of_words g c =
 
 pub returns-clause-due : goal.returns-clause-due
 returns-clause-due g c = λ text other told.
-    second_due (plain_command c.args.command.now) (g.S.Source.seen c.args.layout.now)
+    second_due c.args.command.now (g.S.Source.seen c.args.layout.now)
     (g.S.Source.seen c.layout_for.new.layout) (g.F.Source.seen c.args.second.now)
     (g.F.Source.seen c.second_for.new.second) (g.F.Shelf.texts c.args.second.now) c.in-Ok.read.text.items text other
     c.in-Err-second_for.status _ _ (rw c.reads_layout.ensures at c.in-Ok.ensures.whole)
@@ -84,26 +83,26 @@ returns-clause-due g c = λ text other told.
 
 pub returns-clause-read : goal.returns-clause-read
 returns-clause-read g c =
-    second_fault (plain_command c.args.command.now) (g.S.Source.seen c.args.layout.now)
+    second_fault c.args.command.now (g.S.Source.seen c.args.layout.now)
     (g.S.Source.seen c.layout_for.new.layout) (g.F.Source.seen c.args.second.now)
     (g.F.Source.seen c.second_for.new.second) (g.F.Shelf.texts c.args.second.now) c.in-Err-second_for.status _
     c.in-Err-second_for.ensures.stops c.bare-in-Err-second_for.ensures.status
 
 pub returns-clause-limit : goal.returns-clause-limit
 returns-clause-limit g c = λ count.
-    second_no_limit (plain_command c.args.command.now) (g.F.Source.seen c.args.second.now)
+    second_no_limit c.args.command.now (g.F.Source.seen c.args.second.now)
     (g.F.Source.seen c.second_for.new.second) (g.F.Shelf.texts c.args.second.now) c.in-Err-second_for.status _ count
     _ c.in-Err-second_for.ensures.stops c.bare-in-Err-second_for.ensures.status
 
 pub returns-clause-report_limit : goal.returns-clause-report_limit
 returns-clause-report_limit g c = λ count.
-    second_limit (plain_command c.args.command.now) (g.F.Source.seen c.args.second.now)
+    second_limit c.args.command.now (g.F.Source.seen c.args.second.now)
     (g.F.Source.seen c.second_for.new.second) (g.F.Shelf.texts c.args.second.now) c.in-Err-second_for.status _ count
     c.in-Err-second_for.ensures.stops c.bare-in-Err-second_for.ensures.status
 
 pub returns-clause-script_limit : goal.returns-clause-script_limit
 returns-clause-script_limit g c = λ count.
-    second_script (plain_command c.args.command.now) (g.F.Source.seen c.args.second.now)
+    second_script c.args.command.now (g.F.Source.seen c.args.second.now)
     (g.F.Source.seen c.second_for.new.second) (g.F.Shelf.texts c.args.second.now) c.in-Err-second_for.status _ count
     c.in-Err-second_for.ensures.stops c.bare-in-Err-second_for.ensures.status
 
@@ -123,14 +122,14 @@ returns-clause-steady g c = λ n m. (
 
 pub returns-clause-bare : goal.returns-clause-bare
 returns-clause-bare g c =
-    second_bare (plain_command c.args.command.now) (g.F.Source.seen c.args.second.now)
+    second_bare c.args.command.now (g.F.Source.seen c.args.second.now)
     (g.F.Source.seen c.second_for.new.second) (g.F.Shelf.texts c.args.second.now) c.in-Err-second_for.status _ _
     c.in-Err-second_for.ensures.stops c.bare-in-Err-second_for.ensures.status
     c.bare-in-Err-second_for.ensures.output
 
 pub returns-clause-of_words : goal.returns-clause-of_words
 returns-clause-of_words g c =
-    second_status (plain_command c.args.command.now) (g.F.Source.seen c.args.second.now)
+    second_status c.args.command.now (g.F.Source.seen c.args.second.now)
     (g.F.Source.seen c.second_for.new.second) (g.F.Shelf.texts c.args.second.now) c.in-Err-second_for.status _
     c.in-Err-second_for.ensures.stops c.bare-in-Err-second_for.ensures.status
 
@@ -138,7 +137,7 @@ returns-clause-of_words g c =
 
 pub returns-in-Ok-second_for-clause-due : goal.returns-in-Ok-second_for-clause-due
 returns-in-Ok-second_for-clause-due g c = λ text other told.
-    carried_due (plain_command c.args.command.now) (g.S.Source.seen c.args.layout.now)
+    carried_due c.args.command.now (g.S.Source.seen c.args.layout.now)
     (g.S.Source.seen c.layout_for.new.layout) (g.F.Shelf.texts c.args.second.now) c.in-Ok.read.text.items
     c.in-Ok-second_for.text.items text other _ _
     (rw c.reads_layout.ensures at c.in-Ok.ensures.whole) c.in-Ok-second_for.ensures.read
@@ -147,32 +146,32 @@ returns-in-Ok-second_for-clause-due g c = λ text other told.
 
 pub returns-in-Ok-second_for-clause-read : goal.returns-in-Ok-second_for-clause-read
 returns-in-Ok-second_for-clause-read g c = λ e.
-    absurd (worked_no_fault (plain_command c.args.command.now)
-    (DueOf (plain_command c.args.command.now) c.as_slice.result.now c.as_slice-in-Ok-second_for.result.now)
-    (all_end (plain_command c.args.command.now) c.as_slice.result.now c.as_slice-in-Ok-second_for.result.now) _ _
+    absurd (worked_no_fault c.args.command.now
+    (DueOf c.args.command.now c.as_slice.result.now c.as_slice-in-Ok-second_for.result.now)
+    (all_end c.args.command.now c.as_slice.result.now c.as_slice-in-Ok-second_for.result.now) _ _
     c.carry_out.ensures e)
 
 pub returns-in-Ok-second_for-clause-limit : goal.returns-in-Ok-second_for-clause-limit
 returns-in-Ok-second_for-clause-limit g c = λ count e.
-    let k = worked_limit (plain_command c.args.command.now)
-    (DueOf (plain_command c.args.command.now) c.as_slice.result.now c.as_slice-in-Ok-second_for.result.now)
-    (all_end (plain_command c.args.command.now) c.as_slice.result.now c.as_slice-in-Ok-second_for.result.now) _ _ 1
+    let k = worked_limit c.args.command.now
+    (DueOf c.args.command.now c.as_slice.result.now c.as_slice-in-Ok-second_for.result.now)
+    (all_end c.args.command.now c.as_slice.result.now c.as_slice-in-Ok-second_for.result.now) _ _ 1
     count c.carry_out.ensures e in
     absurd (omega (arith, k.0))
 
 pub returns-in-Ok-second_for-clause-report_limit : goal.returns-in-Ok-second_for-clause-report_limit
 returns-in-Ok-second_for-clause-report_limit g c = λ count e.
-    let k = worked_limit (plain_command c.args.command.now)
-    (DueOf (plain_command c.args.command.now) c.as_slice.result.now c.as_slice-in-Ok-second_for.result.now)
-    (all_end (plain_command c.args.command.now) c.as_slice.result.now c.as_slice-in-Ok-second_for.result.now) _ _ 9
+    let k = worked_limit c.args.command.now
+    (DueOf c.args.command.now c.as_slice.result.now c.as_slice-in-Ok-second_for.result.now)
+    (all_end c.args.command.now c.as_slice.result.now c.as_slice-in-Ok-second_for.result.now) _ _ 9
     count c.carry_out.ensures e in
     absurd (omega (arith, k.1))
 
 pub returns-in-Ok-second_for-clause-script_limit : goal.returns-in-Ok-second_for-clause-script_limit
 returns-in-Ok-second_for-clause-script_limit g c = λ count e.
-    let k = worked_limit (plain_command c.args.command.now)
-    (DueOf (plain_command c.args.command.now) c.as_slice.result.now c.as_slice-in-Ok-second_for.result.now)
-    (all_end (plain_command c.args.command.now) c.as_slice.result.now c.as_slice-in-Ok-second_for.result.now) _ _ 10
+    let k = worked_limit c.args.command.now
+    (DueOf c.args.command.now c.as_slice.result.now c.as_slice-in-Ok-second_for.result.now)
+    (all_end c.args.command.now c.as_slice.result.now c.as_slice-in-Ok-second_for.result.now) _ _ 10
     count c.carry_out.ensures e in
     absurd (omega (arith, k.1))
 
@@ -182,12 +181,12 @@ returns-in-Ok-second_for-clause-absent g c = λ a.
 
 pub returns-in-Ok-second_for-clause-bare : goal.returns-in-Ok-second_for-clause-bare
 returns-in-Ok-second_for-clause-bare g c =
-    worked_bare (plain_command c.args.command.now) (DueOf (plain_command c.args.command.now) c.as_slice.result.now
-    c.as_slice-in-Ok-second_for.result.now) (all_end (plain_command c.args.command.now) c.as_slice.result.now
+    worked_bare c.args.command.now (DueOf c.args.command.now c.as_slice.result.now
+    c.as_slice-in-Ok-second_for.result.now) (all_end c.args.command.now c.as_slice.result.now
     c.as_slice-in-Ok-second_for.result.now) _ _ c.carry_out.ensures
 
 pub returns-in-Ok-second_for-clause-of_words : goal.returns-in-Ok-second_for-clause-of_words
 returns-in-Ok-second_for-clause-of_words g c =
-    worked_status (plain_command c.args.command.now) (DueOf (plain_command c.args.command.now) c.as_slice.result.now
-    c.as_slice-in-Ok-second_for.result.now) (all_end (plain_command c.args.command.now) c.as_slice.result.now
+    worked_status c.args.command.now (DueOf c.args.command.now c.as_slice.result.now
+    c.as_slice-in-Ok-second_for.result.now) (all_end c.args.command.now c.as_slice.result.now
     c.as_slice-in-Ok-second_for.result.now) _ _ c.carry_out.ensures

@@ -1,7 +1,6 @@
 use Rattle.std.proofs.Common.{map, sym, subst}
 use Rattle.std.specs.Prelude.{string_bytes, Ok}
 use Rattle.dpl_words.specs.Commands.{asked_by}
-use Rattle.dpl_words.specs.Views.{plain_command}
 use Rattle.dpl_run.specs.Answer.{Answers, IsDue, IsStatusOf}
 use Rattle.dpl_run.specs.Devices.{AskForAbsent, Reads}
 use Rattle.dpl_run.proofs.AbsentLemmas.{told_unread}
@@ -19,7 +18,7 @@ returns-in-Err-Usage-clause-answer g c = λ text report told.
 
 pub returns-clause-answer : goal.returns-clause-answer
 returns-clause-answer g c =
-    attempt_answers (map string_bytes c.args.words.now) (Ok (plain_command c.in-Ok.command))
+    attempt_answers (map string_bytes c.args.words.now) (Ok c.in-Ok.command)
     (g.S.Source.seen c.args.layout.now).left (g.F.Shelf.texts c.args.second.now) (g.O.Sink.taken c.args.out.now)
     (g.O.Sink.taken c.tell.new.out) (g.O.Sink.faults c.args.out.now) (g.O.Sink.faults c.tell.new.out)
     c.due_for-due.result.status c.due_for-due.result.output.items c.tell.result c.in-Ok.ensures.answer c.due_for-due.ensures.due c.tell.ensures
@@ -44,7 +43,7 @@ returns-clause-steady g c =
 
 pub returns-clause-of_words : goal.returns-clause-of_words
 returns-clause-of_words g c =
-    told_status (map string_bytes c.args.words.now) (plain_command c.in-Ok.command) c.due_for-due.result.status
+    told_status (map string_bytes c.args.words.now) c.in-Ok.command c.due_for-due.result.status
     c.due_for-due.result.output.items (g.O.Sink.taken c.args.out.now) (g.O.Sink.taken c.tell.new.out)
     (g.O.Sink.faults c.args.out.now) (g.O.Sink.faults c.tell.new.out) c.tell.result
     c.in-Ok.ensures.answer c.due_for-due.ensures.of_words c.tell.ensures
@@ -68,7 +67,7 @@ pub returns-clause-reads : goal.returns-clause-reads
 returns-clause-reads g c =
     subst (λ z. Reads z c.tell.result (g.S.Source.seen c.args.layout.now) (g.S.Source.seen c.due_for-due.new.layout)
     (g.F.Source.seen c.args.second.now) (g.F.Source.seen c.due_for-due.new.second)) (sym c.in-Ok.ensures.answer)
-    (told_reads (Ok (plain_command c.in-Ok.command)) c.due_for-due.result.status c.due_for-due.result.output.items
+    (told_reads (Ok c.in-Ok.command) c.due_for-due.result.status c.due_for-due.result.output.items
     (g.O.Sink.taken c.args.out.now) (g.O.Sink.taken c.tell.new.out) (g.O.Sink.faults c.args.out.now)
     (g.O.Sink.faults c.tell.new.out) c.tell.result _ _ _ _ c.tell.ensures (record {
       read = c.due_for-due.ensures.read;

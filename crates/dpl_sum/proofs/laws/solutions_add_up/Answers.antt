@@ -1,6 +1,6 @@
 use Rattle.dpl_parts.proofs.Shared.{broken_sum}
 use Rattle.dpl_sum.proofs.OddLemmas.{in_one}
-use Rattle.dpl_sum.proofs.SolutionLemmas.{solution_sum, aside_sum, odd_faces_sum, refused_sum, refused_in}
+use Rattle.dpl_sum.proofs.SolutionLemmas.{solution_sum, aside_sum, odd_faces_sum}
 use Rattle.dpl_sum.proofs.SameLemmas.{solution_stays}
 use Rattle.dpl_sum.proofs.laws.solutions_add_up.Goals as goal
 
@@ -19,11 +19,5 @@ returns-clause-odd c = odd_faces_sum
 pub returns-clause-in_one : goal.returns-clause-in_one
 returns-clause-in_one c = in_one
 
-pub returns-clause-refused : goal.returns-clause-refused
-returns-clause-refused c = refused_sum
-
 pub returns-clause-stays : goal.returns-clause-stays
 returns-clause-stays c = solution_stays
-
-pub returns-clause-refuses : goal.returns-clause-refuses
-returns-clause-refuses c = refused_in

@@ -1,5 +1,11 @@
-use Rattle.dpl_sum.proofs.SolveLemmas.{exact_again}
+use Rattle.dpl_sum.proofs.SolveLemmas.{edges_few, share_solved, all_solved}
 use Rattle.dpl_sum.proofs.solving.solve_again.Goals as goal
 
-pub returns-clause-exact : goal.returns-clause-exact
-returns-clause-exact c n h = exact_again c.args.net.now _ c.solve_split.ensures.solved c.solve_split.ensures.refused n h
+pub solve_all-requires : goal.solve_all-requires
+solve_all-requires c = record { edges = edges_few c.args.net.now c.in_ok-parts.parts.items _ c.in_ok-parts.ensures c.requires.edges; known = c.requires.known }
+
+pub combine-requires : goal.combine-requires
+combine-requires c = rw c.as_slice.ensures.value (record {
+  share = share_solved c.args.net.now c.in_ok-parts.parts.items c.in_ok-solved.solved.items c.in_ok-parts.ensures c.in_ok-solved.ensures.parts;
+  solved = all_solved c.in_ok-solved.solved.items c.in_ok-solved.ensures.solved;
+})
