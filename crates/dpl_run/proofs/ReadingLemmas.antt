@@ -371,7 +371,7 @@ opening_status : (c : Command) (o : Option Opened) → opens c ≡ o
 opening_status c None is before now texts s w = absurd w
 opening_status c (Some o) is before now texts ReadFault w = tt
 opening_status c (Some o) is before now texts NoMemory w = tt
-opening_status c (Some o) is before now texts (Limit k count) w = inr (inr (inr (o, is, w.0)))
+opening_status c (Some o) is before now texts (Limit k count) w = inr (inr (o, is, w.0))
 opening_status c (Some o) is before now texts Done w = tt
 opening_status c (Some o) is before now texts (Usage k) w = w
 opening_status c (Some o) is before now texts (Layout command what) w = tt
