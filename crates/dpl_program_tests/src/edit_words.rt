@@ -18,12 +18,12 @@ fn a_script_is_named(rt: HostRuntime) -> Result<(), Fail> {
         "edit --script=s --layer M --space 100 --overlap 20 --keep K",
     )?;
     match parse(alloc, words.as_slice())? {
-        Command::Layout {
-            options,
-            work: Work::Edit(script),
-        } => {
+        Command::Layout { options, work } => {
             assert_eq!(rt; options.layer().bytes(), b"M".as_slice());
-            assert_eq!(rt; script.as_str(), "s");
+            match work {
+                Work::Edit(script) => assert_eq!(rt; script.as_str(), "s"),
+                _ => return Err("another command".into()),
+            }
         }
         _ => return Err("another command".into()),
     }
