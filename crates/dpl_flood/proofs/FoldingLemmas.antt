@@ -1,8 +1,9 @@
 -- A ring of tops of a tree becomes one top.
-use Rattle.std.proofs.Common.{arith, ◌≡◌, ◌≢◌, ℕ, ◌*◌, ◌<◌, ◌==◌, refl, sym, ap, ◌∙◌, subst, inl, inr, false, Bool, eq-eqb, Option, List, [], length, get_or}
+use Rattle.std.proofs.Common.{arith, ◌≡◌, ◌≢◌, ℕ, ◌+◌, ◌*◌, ◌<◌, ◌≤◌, ◌==◌, ◌^◌, refl, sym, ap, ◌∙◌, subst, inl, inr, true, false, Bool, eq-eqb, Option, None, List, [], length, get_or}
 use Rattle.std.proofs.Math.Path.{subst₂}
 use Rattle.std.proofs.lemmas.Bool.{cases_Bool, true≢false}
-use Rattle.dpl_laminar.specs.Families.{Sets, has}
+use Rattle.dpl_laminar.specs.Changes.{IsShrunk}
+use Rattle.dpl_laminar.specs.Families.{Sets, IsFamily, has}
 use Rattle.dpl_laminar.specs.Storing.{sets_of}
 use Rattle.dpl_laminar.proofs.Numbers.{has_head}
 use Rattle.dpl_dual.specs.declared.crosses.Dual.{Dual}
@@ -18,7 +19,8 @@ use Rattle.dpl_tree.specs.Views.{forest_of, place_in}
 use Rattle.dpl_tree.proofs.Alike.{loads_alike, shrunk_alike}
 use Rattle.dpl_flood.specs.declared.state.State.{State}
 use Rattle.dpl_flood.specs.Arenas.{AreNodes, node_at}
-use Rattle.dpl_flood.specs.Foldings.{AreTotals, IsFolded}
+use Rattle.dpl_flood.specs.Foldings.{AreInner, IsFolded}
+use Rattle.dpl_flood.specs.Givings.{AreSettled}
 use Rattle.dpl_flood.specs.Forested.{NamesTree, AreTrees, IsForested, IsNearer, IsTied, dist_of, trees_of}
 use Rattle.dpl_flood.specs.Holdings.{node_of, point_of, stack_of}
 use Rattle.dpl_flood.specs.Joins.{AreJoins, HaveSeats, dist_in}
@@ -31,6 +33,7 @@ use Rattle.dpl_flood.proofs.ForestLemmas.{far_alike, far_within}
 use Rattle.dpl_flood.proofs.NameLemmas.{named_folded}
 use Rattle.dpl_flood.proofs.NotedLemmas.{far_back}
 use Rattle.dpl_flood.proofs.RateLemmas.{forest_folds}
+use Rattle.dpl_flood.proofs.ShoreLemmas.{top_total}
 use Rattle.dpl_flood.proofs.StackedLemmas.{cases_stack, held_changed}
 use Rattle.dpl_flood.proofs.StageLemmas.{stage_with}
 use Rattle.dpl_flood.proofs.TurnLemmas.{looked_keys}
@@ -242,11 +245,68 @@ folded_nearer d x y join set t h =
 
 -- ---- the step
 
--- what all sets have for a member stays
-pub totals_folded : (f g : Sets) (x y : Forest) (set : ℕ) (sums : List ℕ) → HasFolded f x set g y → AreTotals f sums → AreTotals g sums
-totals_folded f g x y set sums w are t ht =
+-- the new set is a top
+pub folded_top : (d : Dual) (x : State) (mates : List (Option ℕ)) (y : Forest) (set : ℕ) (g : Sets) → IsForested d x
+    → HasFolded (sets_of x.family) (forest_of x.tree mates) set g y → g.parent set ≡ None
+folded_top d x mates y set g f w =
+    let s = w.shrunk.sets in
+    let away : has w.children set ≡ false = elim (cases_Bool (has w.children set)) [
+      | inr q ↦ q
+      | inl q ↦ absurd (true≢false (sym (f.trees.stage.tree.tops set (w.cycle.in_tree set q)).1 ∙ s.was_free))
+    ] in
+    s.parent_others set away ∙ f.state.sea.family.laminar.children.dead_parent set s.below s.was_free
+
+-- its child that holds a member was the top of the member
+child_was_top : (f g : Sets) (children : List ℕ) (joins : List (ℕ × ℕ)) (set c t : ℕ) → IsFamily f → IsFamily g → IsShrunk f children joins set g
+    → t < f.size → has (g.children set) c ≡ true → g.holds c t ≡ true → c ≡ f.top t
+child_was_top f g children joins set c t fam new w ht kid y =
+    let s = w.sets in
+    let low : t < g.size = omega (arith, ht, w.size) in
+    let hs : set < 2 * g.size = omega (arith, s.below, w.size) in
+    let ne : f.top t ≢ set = λ e. true≢false (sym (fam.laminar.tops.top_live t ht) ∙ ap f.live e ∙ s.was_free) in
+    let in_ring : has children (f.top t) ≡ true = sym (s.holds_set t ht) ∙ new.laminar.children.child_holds set c t hs low kid y in
+    new.laminar.children.apart set c (f.top t) t hs low kid (ap (λ z. has z (f.top t)) s.children_set ∙ in_ring) y
+    (s.holds_others (f.top t) t (fam.laminar.tops.top_range t ht) ne ht ∙ fam.laminar.tops.top_holds t ht)
+
+-- so what it has besides what was inside that is no more than the time
+pub child_small : (d : Dual) (x : State) (mates : List (Option ℕ)) (y : Forest) (set : ℕ) (g : Sets) → IsForested d x
+    → HasFolded (sets_of x.family) (forest_of x.tree mates) set g y → (t c : ℕ) → t < g.size → has (g.children set) c ≡ true
+    → g.holds c t ≡ true → get_or x.inners.items t 0 + g.value c ≤ 2 ^ 50
+child_small d x mates y set g f w t c ht kid holds =
+    let old = sets_of x.family in
+    let sea = f.state.sea in
+    let low : t < old.size = omega (arith, ht, w.shrunk.size) in
+    let is = child_was_top old g w.children w.joins set c t sea.family w.family w.shrunk low kid holds in
+    omega (
+      arith,
+      f.state.inner t low,
+      w.shrunk.value c,
+      ap old.value is,
+      top_total old sea.family t low,
+      sea.clock t low,
+      f.state.early,
+    )
+
+-- Where its children are inside it, members have what they have inside their tops.
+pub inner_folded : (f g : Sets) (x y : Forest) (set count : ℕ) (old new : List ℕ) → IsFamily f → HasFolded f x set g y → AreInner f old
+    → count ≡ g.size → AreSettled g set count new old → AreInner g new
+inner_folded f g x y set count old new fam w inner many settled t ht =
+    let s = w.shrunk.sets in
     let low : t < f.size = omega (arith, ht, w.shrunk.size) in
-    are t low ∙ sym (total_same set f g (shrunk_but f w.children w.joins set g w.shrunk) t low)
+    let before = top_total f fam t low in
+    let after = top_total g w.family t ht in
+    let all = total_same set f g (shrunk_but f w.children w.joins set g w.shrunk) t low in
+    elim (cases_Bool (has w.children (f.top t))) [
+      | inl e ↦
+          let top = s.top_inside t low e in
+          let l = settled.inside t (omega (arith, ht, many)) top in
+          let is = child_was_top f g w.children w.joins set l.child t fam w.family w.shrunk low l.is_child l.holds in
+          omega (arith, before, after, all, inner t low, l.sum, w.shrunk.value l.child, ap f.value is, ap g.value top, w.shrunk.value_set)
+      | inr e ↦
+          let top = s.top_others t low e in
+          let ne : g.top t ≢ set = λ q. true≢false (sym (fam.laminar.tops.top_live t low) ∙ ap f.live (sym top ∙ q) ∙ s.was_free) in
+          omega (arith, before, after, all, inner t low, settled.others t (λ _. ne), w.shrunk.value (f.top t), ap g.value top)
+    ]
 
 -- what the step leads to is the same where its pairs are kept in another list
 pub next_pairs : (f g : Sets) (old new : Tree) (mates rest less kept : List (Option ℕ)) (join : ℕ × ℕ) → mates ≡ rest → less ≡ kept

@@ -1,5 +1,5 @@
 -- A top that falls gives way to its children.
-use Rattle.std.proofs.Common.{arith, ◌≡◌, ◌≢◌, ℕ, ◌+◌, ◌-◌, ◌*◌, ◌<◌, ◌≤◌, ◌==◌, refl, sym, ap, ◌∙◌, subst, inl, inr, Bool, true, false, cond, eq-eqb, Some, None, List, length, get_or}
+use Rattle.std.proofs.Common.{arith, ◌≡◌, ◌≢◌, ℕ, ◌+◌, ◌*◌, ◌<◌, ◌≤◌, ◌==◌, refl, sym, ap, ◌∙◌, subst, inl, inr, Bool, true, false, cond, eq-eqb, Some, None, List, length, get_or}
 use Rattle.std.specs.Prelude.{slice_set}
 use Rattle.std.proofs.lemmas.Bool.{cases_eq, cases_Bool, cond-true, true≢false}
 use Rattle.std.proofs.lemmas.List.{get_or-set_other, length-set}
@@ -27,7 +27,7 @@ use Rattle.dpl_flood.specs.declared.state.State.{State}
 use Rattle.dpl_flood.specs.Dues.{IsDueAt}
 use Rattle.dpl_flood.specs.Events.{IsSpent}
 use Rattle.dpl_flood.specs.Forested.{NamesTree, AreTrees, IsForested, IsNearer, dist_of, trees_of}
-use Rattle.dpl_flood.specs.Givings.{AreSettled, HasOpened, AreChildren, AreKeyedAll}
+use Rattle.dpl_flood.specs.Givings.{HasOpened, AreChildren, AreKeyedAll}
 use Rattle.dpl_flood.specs.Holdings.{stack_of}
 use Rattle.dpl_flood.specs.Queues.{never}
 use Rattle.dpl_flood.specs.Rates.{gains_in, losses_in}
@@ -51,56 +51,11 @@ use Rattle.dpl_flood.proofs.TurnLemmas.{is_true}
 
 -- ---- what is inside tops
 
--- no member is settled
-pub settled_none : (f : Sets) (set : ℕ) (old : List ℕ) → AreSettled f set 0 old old
-settled_none f set old = record {
-  sizes = refl;
-  inside = λ m h. absurd (omega (arith, h));
-  others = λ m _. refl;
-}
-
--- one member more, which is not of the top
-pub settled_skip : (f : Sets) (set i : ℕ) (old new : List ℕ) → AreSettled f set i old new → f.top i ≢ set → AreSettled f set (i + 1) old new
-settled_skip f set i old new s ne = record {
-  sizes = s.sizes;
-  inside = λ m h e. elim (cases_eq m i) [
-    | inl q ↦ absurd (ne (sym (ap f.top q) ∙ e))
-    | inr n ↦ s.inside m (omega (arith, h, n)) e
-  ];
-  others = λ m k. s.others m (λ h. k (omega (arith, h)));
-}
-
 -- What a child has is inside the top of its members.
 pub child_inside : (f : Sets) → IsFamily f → (set m child : ℕ) → m < f.size → child < 2 * f.size → f.parent child ≡ Some set
     → f.holds child m ≡ true → f.value child ≤ inner_of f (f.top m) m
 child_inside f fam set m c hm hc p y =
     omega (arith, inside_top f fam m c hm hc y (λ e. some_none (f.parent c) set p (ap f.parent e ∙ fam.laminar.tops.top_parent m hm)))
-
--- or which is
-pub settled_more : (f : Sets) (set i c : ℕ) (old new : List ℕ) → IsFamily f → AreSettled f set i old new → i < length new → f.top i ≡ set → c < 2 * f.size
-    → f.live c ≡ true → f.parent c ≡ Some set → f.holds c i ≡ true → f.value c ≤ get_or new i 0
-    → AreSettled f set (i + 1) old (slice_set new i (get_or new i 0 - f.value c))
-settled_more f set i c old new fam s hi top hc live p y most =
-    let v = get_or new i 0 - f.value c in
-    record {
-      sizes = length-set new i v ∙ s.sizes;
-      inside = λ m h e. elim (cases_eq m i) [
-        | inl q ↦ record {
-          child = c;
-          below = hc;
-          is_child = (fam.laminar.children.parent_range c set hc live p).3;
-          holds = ap (f.holds c) q ∙ y;
-          sum = omega (arith, get_or-set_at new i m v 0 q hi, most, s.others m (λ h. absurd (omega (arith, h, q))), ap (λ z. get_or new z 0) q);
-        }
-        | inr n ↦
-            let l = s.inside m (omega (arith, h, n)) e in
-            record { child = l.child; below = l.below; is_child = l.is_child; holds = l.holds; sum = omega (arith, l.sum, get_or-set_other new i m v 0 n) }
-      ];
-      others = λ m k. elim (cases_eq m i) [
-        | inl q ↦ absurd (k (omega (arith, q)) (ap f.top q ∙ top))
-        | inr n ↦ get_or-set_other new i m v 0 n ∙ s.others m (λ h. k (omega (arith, h)))
-      ];
-    }
 
 -- ---- what the step leaves
 
@@ -133,6 +88,10 @@ stage_by d x w = record {
 -- It is a set that stands.
 pub spent_live : (d : Dual) (x : State) (set : ℕ) → IsForested d x → IsSpent x set → (sets_of x.family).live set ≡ true
 spent_live d x set w p = (w.state.sea.moving.tops set (omega (arith, p.falls))).1.0
+
+-- It has no parent.
+pub spent_top : (d : Dual) (x : State) (set : ℕ) → IsForested d x → IsSpent x set → (sets_of x.family).parent set ≡ None
+spent_top d x set w p = (w.state.sea.moving.tops set (omega (arith, p.falls))).1.1
 
 -- The ring from one of its children on has all of them.
 pub are_children : (d : Dual) (x : State) (set first : ℕ) (sets : List ℕ) (joins : List (ℕ × ℕ)) → IsForested d x → IsSpent x set

@@ -38,7 +38,7 @@ mod EnterLemmas
 mod AugmentLemmas
 mod OnwardLemmas
 mod CloseLemmas
-mod TotalLemmas
+mod InnerLemmas
 mod FoldingLemmas
 mod GiveLemmas
 mod ClockLemmas

@@ -1,5 +1,5 @@
 -- What two tops that grow come to where they met.
-use Rattle.std.proofs.Common.{◌≡◌, ℕ, ap, ◌∙◌, subst, sym, inl, inr}
+use Rattle.std.proofs.Common.{◌≡◌, ℕ, ap, ◌∙◌, subst, sym, inl, inr, Bool, true, false}
 use Rattle.dpl_laminar.specs.Families.{load_of}
 use Rattle.dpl_laminar.specs.Storing.{sets_of}
 use Rattle.dpl_dual.specs.declared.crosses.Dual.{Dual}
@@ -40,6 +40,7 @@ tied_ended d x y z one two p t h =
     let b = subst (λ q. HasEnded d q z) t.rest h in
     record { one = b.one; two = b.two; apart = b.apart; ends = b.ends; other = b.other; family = b.family; seats = b.seats; time = b.time }
 
-pub tied_onward : (d : Dual) (x y z : State) (one two : ℕ) (p : ℕ × ℕ) → HasTied d x y one two p → IsOnward d y z → IsOnward d x z
-tied_onward d x y z one two p t (inl n) = inl (tied_nearer d x y z one two p t n)
-tied_onward d x y z one two p t (inr h) = inr (tied_ended d x y z one two p t h)
+pub tied_onward : (d : Dual) (ended : Bool) (x y z : State) (one two : ℕ) (p : ℕ × ℕ) → HasTied d x y one two p → IsOnward d ended y z
+    → IsOnward d ended x z
+tied_onward d true x y z one two p t h = tied_ended d x y z one two p t h
+tied_onward d false x y z one two p t n = tied_nearer d x y z one two p t n

@@ -280,7 +280,7 @@ pub root_counts : (n : ℕ) (f : Sets) (x : Forest) (a : ℕ) → a < n → is_r
 root_counts n f x a h e = marked_counts n (is_root f x) a h e
 
 -- no more members are roots than there are
-few_roots : (n : ℕ) (f : Sets) (x : Forest) → roots_below n f x ≤ n
+pub few_roots : (n : ℕ) (f : Sets) (x : Forest) → roots_below n f x ≤ n
 few_roots n f x = omega (arith, sum_most_each n (λ a. cond {A = ℕ} (is_root f x a) 1 0) 1 (λ a _. one (is_root f x a)))
   where
     one : (b : Bool) → cond {A = ℕ} b 1 0 ≤ 1
@@ -313,7 +313,7 @@ swept_low x y bound w low i = omega (arith, low i, ap (λ (t : Tree). get_or t.r
 same_size : (d : Dual) (x y : State) → IsForested d x → IsForested d y → y.seats ≡ x.seats → (sets_of y.family).size ≡ (sets_of x.family).size
 same_size d x y f g e = sym g.members ∙ ap length e ∙ f.members
 
-nearer_forward : (d : Dual) (x y : State) → IsForested d x → IsForested d y → IsNearer x y → IsForward x y
+nearer_forward : (d : Dual) (x y : State) → IsForested d x → IsForested d y → IsNearer x y → IsForward false x y
 nearer_forward d x y f g e =
     let n = (sets_of x.family).size in
     let size = same_size d x y f g e.seats in
@@ -326,11 +326,11 @@ nearer_forward d x y f g e =
       falls = subst (λ z. work_in z (sets_of y.family) (trees_of y) < work_of x) (sym size)
           (less_left n (potential n (sets_of x.family) (trees_of x).place) (potential n (sets_of y.family) (trees_of y).place) (roots_of x)
           (roots_below n (sets_of y.family) (trees_of y)) e.falls roots);
-      roots = inl (ap (λ z. roots_below z (sets_of y.family) (trees_of y)) size ∙ roots);
+      roots = omega (arith, ap (λ z. roots_below z (sets_of y.family) (trees_of y)) size, roots);
       ranks = e.ranks;
     }
 
-ended_forward : (d : Dual) (x y : State) → IsForested d x → HasEnded d x y → IsForward x y
+ended_forward : (d : Dual) (x y : State) → IsForested d x → HasEnded d x y → IsForward true x y
 ended_forward d x y f e =
     let n = (sets_of x.family).size in
     let roots = roots_ended n (dist_of d y) (dist_of d x) (sea_of x) e.one e.two (trees_of x) (trees_of y) (λ k. refl) f.trees e.ends e.apart e.other in
@@ -339,37 +339,37 @@ ended_forward d x y f e =
       falls = subst (λ z. work_in (sets_of z).size (sets_of z) (trees_of y) < work_of x) (sym e.family)
           (less_work n (potential n (sets_of x.family) (trees_of x).place) (potential n (sets_of x.family) (trees_of y).place) (roots_of x)
           (roots_below n (sets_of x.family) (trees_of y)) (potential_most n (sets_of x.family) (trees_of y).place) roots);
-      roots = inr (ap (λ z. roots_below (sets_of z).size (sets_of z) (trees_of y) + 2) e.family ∙ roots);
+      roots = ap (λ z. roots_below (sets_of z).size (sets_of z) (trees_of y) + 2) e.family ∙ roots;
       ranks = λ bound low i. omega (arith, e.ends.ranks i, low i);
     }
 
 -- Trees have come nearer to their end where no tree changed until one did.
-pub forward : (d : Dual) (x y z : State) → IsSwept x y → IsForested d y → IsForested d z → IsOnward d y z → IsForward x z
-forward d x y z w f g on =
-    let step : IsForward y z = elim on [
-      | inl e ↦ nearer_forward d y z f g e
-      | inr e ↦ ended_forward d y z f e
-    ] in
+pub forward : (d : Dual) (ended : Bool) (x y z : State) → IsSwept x y → IsForested d y → IsForested d z → IsOnward d ended y z
+    → IsForward ended x z
+forward d ended x y z w f g on =
+    let step : IsForward ended y z = one_step ended on in
     let same = swept_roots x y w in
     record {
       seats = step.seats ∙ w.same.seats;
       falls = omega (arith, step.falls, same.1);
-      roots = elim step.roots [
-        | inl e ↦ inl (e ∙ same.0)
-        | inr e ↦ inr (e ∙ same.0)
-      ];
+      roots = step.roots ∙ same.0;
       ranks = λ bound low i. omega (arith, step.ranks bound (swept_low x y bound w low) i, ap (λ (q : Sets). q.size) w.sets);
     }
+  where
+    one_step : (t : Bool) → IsOnward d t y z → IsForward t y z
+    one_step true e = ended_forward d y z f e
+    one_step false e = nearer_forward d y z f g e
 
 -- ---- all events
 
 -- at first ranks are 0
-pub running_none : (d : Dual) (x : State) (keys : List ℕ) → IsForested d x → AreKeys d x keys → roots_of x % 2 ≡ 0 → AreRanked (trees_of x) 0
-    → IsRunning d x x keys
-running_none d x keys f k even low = record {
+pub running_none : (d : Dual) (x : State) (keys : List ℕ) (trees : ℕ) → IsForested d x → AreKeys d x keys → trees ≡ roots_of x
+    → roots_of x % 2 ≡ 0 → AreRanked (trees_of x) 0 → IsRunning d x x keys trees
+running_none d x keys trees f k count even low = record {
   forest = f;
   keys = k;
   seats = refl;
+  count = count;
   even = even;
   bound = 0;
   low = low;
@@ -377,26 +377,28 @@ running_none d x keys f k even low = record {
 }
 
 -- one event more
-pub running_more : (d : Dual) (x y z : State) (before after : List ℕ) → IsRunning d x y before → IsForward y z → IsForested d z → AreKeys d z after
-    → IsRunning d x z after
-running_more d x y z before after r w f k =
+pub running_more : (d : Dual) (ended : Bool) (x y z : State) (before after : List ℕ) (trees left : ℕ) → IsRunning d x y before trees
+    → left + cond ended 2 0 ≡ trees → IsForward ended y z → IsForested d z → AreKeys d z after → IsRunning d x z after left
+running_more d ended x y z before after trees left r l w f k =
     let small = r.forest.state.sea.family.small in
     record {
       forest = f;
       keys = k;
       seats = w.seats ∙ r.seats;
-      even = elim w.roots [
-        | inl e ↦ omega (arith, e, r.even)
-        | inr e ↦ omega (arith, e, r.even)
-      ];
+      count = omega (arith, l, w.roots, r.count);
+      even = still_even ended w.roots;
       bound = r.bound + 4 * (sets_of y.family).size;
       low = w.ranks r.bound r.low;
       room = omega (arith, w.falls, r.room, small);
     }
+  where
+    still_even : (t : Bool) → roots_of z + cond t 2 0 ≡ roots_of y → roots_of z % 2 ≡ 0
+    still_even true e = omega (arith, e, r.even)
+    still_even false e = omega (arith, e, r.even)
 
 -- ranks are low enough
-pub running_low : (d : Dual) (x y : State) (keys : List ℕ) → IsRunning d x y keys → AreRanked (trees_of y) most_rank
-running_low d x y keys r i = omega (arith, r.low i, r.room)
+pub running_low : (d : Dual) (x y : State) (keys : List ℕ) (trees : ℕ) → IsRunning d x y keys trees → AreRanked (trees_of y) most_rank
+running_low d x y keys trees r i = omega (arith, r.low i, r.room)
 
 -- ---- the end
 

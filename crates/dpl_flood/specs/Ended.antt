@@ -1,5 +1,5 @@
 -- Two trees end, and how far an event of trees leads.
-use Rattle.std.specs.Prelude.{◌≡◌, ◌≢◌, ◌⊎◌, ℕ, slice_index}
+use Rattle.std.specs.Prelude.{◌≡◌, ◌≢◌, ◌⊎◌, ℕ, Bool, true, false, slice_index}
 use Rattle.dpl_laminar.specs.Storing.{sets_of}
 use Rattle.dpl_dual.specs.declared.crosses.Dual.{Dual}
 use Rattle.dpl_tree.specs.declared.tree.Tree.{Tree}
@@ -25,6 +25,7 @@ pub record HasEnded (d : Dual) (x y : State) : Type 0 where
   pub seats : y.seats ≡ x.seats
   pub time : y.time ≡ x.time
 
--- trees are nearer to their end, or two have ended
-abbrev pub IsOnward : Dual → State → State → Type 0
-IsOnward d x y = IsNearer x y ⊎ HasEnded d x y
+-- two trees have ended, or trees are nearer to their end
+abbrev pub IsOnward : Dual → Bool → State → State → Type 0
+IsOnward d true x y = HasEnded d x y
+IsOnward d false x y = IsNearer x y

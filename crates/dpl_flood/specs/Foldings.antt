@@ -3,7 +3,6 @@ use Rattle.std.specs.Prelude.{◌≡◌, ℕ, ◌<◌, List, length, slice_index
 use Rattle.dpl_laminar.specs.Families.{Sets}
 use Rattle.dpl_laminar.specs.Storing.{sets_of}
 use Rattle.dpl_pack.specs.Nests.{inner_of}
-use Rattle.dpl_pack.specs.Points.{total_at}
 use Rattle.dpl_tree.specs.steps.Growth.{AreTightBy, IsNextBy, HasFolded}
 use Rattle.dpl_tree.specs.Views as views
 use Rattle.dpl_flood.specs.declared.state.State.{State}
@@ -12,10 +11,6 @@ use Rattle.dpl_flood.specs.Forested.{trees_of}
 -- for each member what the sets strictly inside its top have
 abbrev pub AreInner : Sets → List ℕ → Type 0
 AreInner f sums = (t : ℕ) → t < f.size → slice_index sums t ≡ inner_of f (f.top t) t
-
--- for each member what all sets that hold it have
-abbrev pub AreTotals : Sets → List ℕ → Type 0
-AreTotals f sums = (t : ℕ) → t < f.size → slice_index sums t ≡ total_at f t
 
 -- The tops on the two ways from two tight members up to where these meet became one top. No moat moves.
 pub record IsFolded (x y : State) (join : ℕ × ℕ) (set : ℕ) : Type 0 where

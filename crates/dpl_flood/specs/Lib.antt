@@ -17,6 +17,7 @@ pub mod Ended
 pub mod Closed
 pub mod StateLaws
 pub mod Events
+pub mod Inners
 pub mod Foldings
 pub mod Givings
 pub mod Starts

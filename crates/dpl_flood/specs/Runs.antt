@@ -35,21 +35,22 @@ work_in n f x = potential n f x.place + (2 * n + 1) * roots_below n f x
 abbrev pub work_of : State → ℕ
 work_of x = work_in (sets_of x.family).size (sets_of x.family) (trees_of x)
 
--- Trees have come nearer to their end, with time that passed before or not: as many stand as before or two less, and ranks have
--- risen by little.
-pub record IsForward (x y : State) : Type 0 where
+-- Trees have come nearer to their end, with time that passed before or not: two less stand where two have ended, and as many as
+-- before where not, and ranks have risen by little.
+pub record IsForward (ended : Bool) (x y : State) : Type 0 where
   pub seats : y.seats ≡ x.seats
   pub falls : work_of y < work_of x
-  pub roots : (roots_of y ≡ roots_of x) ⊎ (roots_of y + 2 ≡ roots_of x)
+  pub roots : roots_of y + (if ended then 2 else 0) ≡ roots_of x
   pub ranks : (bound : ℕ) → AreRanked (trees_of x) bound → AreRanked (trees_of y) (bound + 4 * (sets_of x.family).size)
 
 -- ---- while trees stand; no public clause speaks of what follows
 
--- an even number of trees stands over the same seats, and ranks have room for all events to come
-pub record IsRunning (d : Dual) (x y : State) (queue : List ℕ) : Type 0 where
+-- so many trees stand over the same seats, an even number, and ranks have room for all events to come
+pub record IsRunning (d : Dual) (x y : State) (queue : List ℕ) (trees : ℕ) : Type 0 where
   pub forest : IsForested d y
   pub keys : AreKeys d y queue
   pub seats : y.seats ≡ x.seats
+  pub count : trees ≡ roots_of y
   pub even : roots_of y % 2 ≡ 0
   pub bound : ℕ
   pub low : AreRanked (trees_of y) bound

@@ -1,26 +1,45 @@
 //! A ring of tops of a tree becomes one top.
 
-ghost use Rattle.std.specs.Prelude.{◌≡◌, ◌≤◌, ◌+◌, ℕ, slice_index, IfOk, OnOk};
+ghost use Rattle.std.specs.Prelude.{◌≡◌, ◌<◌, ◌≤◌, ◌+◌, ◌*◌, ◌^◌, ℕ, true, None, length, slice_index, IfOk, OnOk};
+ghost use Rattle.dpl_laminar.specs.Families.{has};
 ghost use Rattle.dpl_laminar.specs.Storing.{sets_of};
 ghost use Rattle.dpl_dual.specs.declared.crosses.Dual.{Dual};
 ghost use Rattle.dpl_flood.specs.Foldings.{IsFolded};
 ghost use Rattle.dpl_flood.specs.Forested.{IsForested, IsNearer, IsTied};
+ghost use Rattle.dpl_flood.specs.Givings.{AreSettled};
 ghost use Rattle.dpl_flood.specs.States.{AreKeys};
 ghost use Rattle.dpl_flood.specs.Steps.{step_rows};
 
+use crate::inners::lift;
 use crate::looks::look_top;
 use crate::queue::Queue;
 use crate::state::State;
-use crate::totals::{add_tops, drop_tops};
 use crate::ways::Step;
 use dpl_dual::Dual;
-use dpl_laminar::Steps;
+use dpl_laminar::{Family, Steps};
 use dpl_list::Grouped;
 use std::alloc::{AllocError, Global};
 use std::sync::ledger::Ledger;
 
-/// Makes one top of the two ways from two tight members of one tree to where they meet, and gives its number. What a member
-/// has in all stays, so the sums inside the tops are found by way of it.
+/// The children of a new top are inside it: its members have so much more inside their tops. It costs the members.
+pub(crate) fn gather(family: &Family, inners: &mut [u64], set: u32)
+    requires sized { length inners.old ≡ (sets_of family.now).size }
+    requires above { (sets_of family.now).size ≤ set }
+    requires below { set < 2 * (sets_of family.now).size }
+    requires top { (sets_of family.now).parent set ≡ None }
+    requires small { (m c : ℕ) → m < (sets_of family.now).size → has ((sets_of family.now).children set) c ≡ true →
+        (sets_of family.now).holds c m ≡ true → slice_index inners.old m + (sets_of family.now).value c ≤ 2 ^ 50 }
+    ensures { AreSettled (sets_of family.now) set (length inners.old) inners.new inners.old }
+{
+    let members = family.members(set);
+    let size = inners.len() as u32;
+    for i in 0..members.len() {
+        lift(family, inners, set, members[i]);
+        lift(family, inners, set, size + members[i]);
+    }
+}
+
+/// Makes one top of the two ways from two tight members of one tree to where they meet, and gives its number.
 fn fold_ring<L: Ledger>(
     alloc: Global,
     state: &mut State,
@@ -33,7 +52,6 @@ fn fold_ring<L: Ledger>(
     ensures folded { IfOk result (IsFolded state.old state.new join) }
     ensures steps { steps.new ≤ steps.old + 1 }
 {
-    add_tops(&state.family, &mut state.inners);
     let set = dpl_tree::fold(
         alloc,
         &mut state.family,
@@ -42,7 +60,7 @@ fn fold_ring<L: Ledger>(
         join,
         steps,
     )?;
-    drop_tops(&state.family, &mut state.inners);
+    gather(&state.family, &mut state.inners, set);
     Ok(set)
 }
 

@@ -1,6 +1,6 @@
 //! A top that falls and has nothing left gives way to its children.
 
-ghost use Rattle.std.specs.Prelude.{◌≡◌, ℕ, ◌+◌, ◌*◌, ◌<◌, ◌≤◌, true, Some, length, slice_index, IfOk, OnOk};
+ghost use Rattle.std.specs.Prelude.{◌≡◌, ℕ, ◌+◌, ◌*◌, ◌<◌, ◌≤◌, true, Some, None, length, slice_index, IfOk, OnOk};
 ghost use Rattle.dpl_laminar.specs.Storing.{sets_of};
 ghost use Rattle.dpl_dual.specs.declared.crosses.Dual.{Dual};
 ghost use Rattle.dpl_tree.specs.Stages.{most_rank, AreRanked};
@@ -10,6 +10,7 @@ ghost use Rattle.dpl_flood.specs.Givings.{AreSettled, HasOpened, AreChildren, Ar
 ghost use Rattle.dpl_flood.specs.States.{IsState, AreKeys};
 ghost use Rattle.dpl_flood.specs.Steps.{step_rows};
 
+use crate::inners::lower;
 use crate::looks::{look_set, look_top};
 use crate::queue::Queue;
 use crate::state::State;
@@ -21,23 +22,24 @@ use dpl_tree::{child_with, round_from};
 use std::alloc::{AllocError, Global};
 use std::sync::ledger::Ledger;
 
-/// The children of a top are inside it no more: its members have so much less inside their tops.
+/// The children of a top are inside it no more: its members have so much less inside their tops. A child has the number of a
+/// member of the top, or as a greater set the same behind those of the singles. It costs the members.
 pub(crate) fn settle(family: &Family, inners: &mut [u64], set: u32)
     requires sized { length inners.old ≡ (sets_of family.now).size }
     requires above { (sets_of family.now).size ≤ set }
     requires below { set < 2 * (sets_of family.now).size }
     requires live { (sets_of family.now).live set ≡ true }
+    requires top { (sets_of family.now).parent set ≡ None }
     requires enough { (m c : ℕ) → m < (sets_of family.now).size → (sets_of family.now).top m ≡ set →
         c < 2 * (sets_of family.now).size → (sets_of family.now).parent c ≡ Some set →
         (sets_of family.now).holds c m ≡ true → (sets_of family.now).value c ≤ slice_index inners.old m }
     ensures { AreSettled (sets_of family.now) set (length inners.old) inners.old inners.new }
 {
-    for i in 0..inners.len() {
-        let member = i as u32;
-        if family.tops(member) == set {
-            let child = child_with(family, set, member);
-            inners[i] -= family.value(child);
-        }
+    let members = family.members(set);
+    let size = inners.len() as u32;
+    for i in 0..members.len() {
+        lower(family, inners, set, members[i]);
+        lower(family, inners, set, size + members[i]);
     }
 }
 

@@ -38,6 +38,7 @@ mod folding;
 mod giving;
 mod held;
 mod holders;
+mod inners;
 mod joins;
 mod keys;
 mod laws;
@@ -62,7 +63,6 @@ mod sweeping;
 #[cfg(test)]
 mod tests;
 mod thawing;
-mod totals;
 mod turning;
 mod ways;
 
@@ -93,7 +93,7 @@ pub use pairs::{join_all, join_pairs};
 pub use passing::advance;
 pub use queue::Queue;
 pub use relabelling::{grow, rouse};
-pub use running::{go_on, has_trees, run};
+pub use running::{count_trees, go_on, run};
 pub use settling::meet;
 pub use shifting::{reach, retreat, shift};
 pub use shores::{leave, take};

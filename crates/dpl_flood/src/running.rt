@@ -1,6 +1,6 @@
 //! Moats grow until no tree is left.
 
-ghost use Rattle.std.specs.Prelude.{◌≡◌, ℕ, ◌%◌, ◌^◌, ◌<◌, true, false, OnOk};
+ghost use Rattle.std.specs.Prelude.{◌≡◌, ℕ, ◌%◌, ◌^◌, ◌<◌, if◌then◌else◌, IfOk, OnOk};
 ghost use Rattle.dpl_laminar.specs.Storing.{sets_of};
 ghost use Rattle.dpl_dual.specs.declared.crosses.Dual.{Dual};
 ghost use Rattle.dpl_tree.specs.Stages.{most_rank, AreRanked};
@@ -55,7 +55,7 @@ fn end_fall<L: Ledger>(
     give_way(alloc, state, dual, ways, queue, set, steps)
 }
 
-/// The trees change by what has come.
+/// The trees change by what has come. Answers whether two have ended.
 fn change<L: Ledger>(
     alloc: Global,
     state: &mut State,
@@ -64,7 +64,7 @@ fn change<L: Ledger>(
     queue: &mut Queue,
     event: Event,
     steps: &mut Steps<L>,
-) -> Result<(), AllocError>
+) -> Result<bool, AllocError>
     requires forest { IsForested dual.now state.old }
     requires keys { AreKeys dual.now state.old queue.old }
     requires ways { ways.now ≡ step_rows dual.now.crosses dual.now.faces }
@@ -73,18 +73,19 @@ fn change<L: Ledger>(
     requires low { AreRanked (trees_of state.old) most_rank }
     ensures forest { OnOk result (IsForested dual.now state.new) }
     ensures keys { OnOk result (AreKeys dual.now state.new queue.new) }
-    ensures onward { OnOk result (IsOnward dual.now state.old state.new) }
+    ensures onward { IfOk result (λ ended. IsOnward dual.now ended state.old state.new) }
 {
     match event {
-        Event::Grow(ahead) => enter(state, dual, ways, queue, ahead),
-        Event::Meet(ahead) => meet(alloc, state, dual, ways, queue, ahead, steps),
-        Event::GiveWay(set) => end_fall(alloc, state, dual, ways, queue, set, steps),
+        Event::Meet(ahead) => return meet(alloc, state, dual, ways, queue, ahead, steps),
+        Event::Grow(ahead) => enter(state, dual, ways, queue, ahead)?,
+        Event::GiveWay(set) => end_fall(alloc, state, dual, ways, queue, set, steps)?,
         Event::Take(_) => unreachable!(),
         Event::Leave(_) => unreachable!(),
     }
+    Ok(false)
 }
 
-/// Time passes until a tree changes, and it changes.
+/// Time passes until a tree changes, and it changes. Answers whether two have ended.
 pub fn go_on<L: Ledger>(
     alloc: Global,
     state: &mut State,
@@ -92,7 +93,7 @@ pub fn go_on<L: Ledger>(
     ways: &Grouped<Step>,
     queue: &mut Queue,
     steps: &mut Steps<L>,
-) -> Result<(), AllocError>
+) -> Result<bool, AllocError>
     requires forest { IsForested dual.now state.old }
     requires keys { AreKeys dual.now state.old queue.old }
     requires ways { ways.now ≡ step_rows dual.now.crosses dual.now.faces }
@@ -100,11 +101,11 @@ pub fn go_on<L: Ledger>(
     requires low { AreRanked (trees_of state.old) most_rank }
     ensures forest { OnOk result (IsForested dual.now state.new) }
     ensures keys { OnOk result (AreKeys dual.now state.new queue.new) }
-    ensures forward { OnOk result (IsForward state.old state.new) }
+    ensures forward { IfOk result (λ ended. IsForward ended state.old state.new) }
 {
     let event = sweep(alloc, state, dual, ways, queue, steps)?;
-    change(alloc, state, dual, ways, queue, event, steps)?;
-    Ok(())
+    let ended = change(alloc, state, dual, ways, queue, event, steps)?;
+    Ok(ended)
 }
 
 /// Whether a member names a tree.
@@ -120,18 +121,26 @@ fn names_tree(state: &State, member: u32) -> bool
     }
 }
 
-/// Whether a tree stands. It costs the members up to the first one that names a tree.
-pub fn has_trees(state: &State) -> bool
-    requires { (d : Dual) × IsForested d state.now }
-    ensures some { result ≡ true → 0 < roots_of state.now }
-    ensures none { result ≡ false → roots_of state.now ≡ 0 }
+/// One where a member names a tree, and nothing where it names none.
+fn trees_of_member(state: &State, member: u32) -> usize
+    requires forest { (d : Dual) × IsForested d state.now }
+    requires member { member < (sets_of state.now.family).size }
+    ensures { result ≡ (if is_root (sets_of state.now.family) (trees_of state.now) member then 1 else 0) }
 {
+    if names_tree(state, member) { 1 } else { 0 }
+}
+
+/// How many trees stand.
+pub fn count_trees(state: &State) -> usize
+    requires { (d : Dual) × IsForested d state.now }
+    ensures { result ≡ roots_of state.now }
+{
+    let mut count = 0;
     for member in 0..state.mates.len() {
-        if names_tree(state, member as u32) {
-            return true;
-        }
+        let tree = trees_of_member(state, member as u32);
+        count += tree;
     }
-    false
+    count
 }
 
 /// Lets moats grow until no tree is left.
@@ -153,8 +162,12 @@ pub fn run<L: Ledger>(
     ensures none { OnOk result ((i : ℕ) → (trees_of state.new).place i ≡ free) }
     ensures seats { OnOk result (state.new.seats ≡ state.old.seats) }
 {
-    'trees: while has_trees(state) {
-        go_on(alloc, state, dual, ways, queue, steps)?;
+    let mut trees = count_trees(state);
+    'trees: while trees > 0 {
+        let ended = go_on(alloc, state, dual, ways, queue, steps)?;
+        if ended {
+            trees -= 2;
+        }
     }
     Ok(())
 }

@@ -6,8 +6,8 @@ ghost use Rattle.dpl_dual.specs.Chains.{Leads, length_of};
 ghost use Rattle.dpl_flood.specs.Starts.{AreSeats};
 ghost use Rattle.dpl_flood.specs.States.{IsGround};
 
+use crate::folding::gather;
 use crate::giving::{look_tops, settle};
-use crate::totals::{add_tops, drop_tops};
 use crate::{
     Arena, Event, Held, Join, Keys, Lent, NoMemory, Queue, Stamped, State, first_keys, meet,
     steps_at, sweep,
@@ -220,30 +220,6 @@ fn seats_tell_the_first_keys(rt: HostRuntime) -> Result<(), NoMemory> {
     Ok(())
 }
 
-/// What all sets have for two members, of which the first one has value 4, and what those inside its top have for it.
-fn sums_of_two<L: Ledger>(alloc: Global, blank: Blank) -> Result<(u64, u64, u64), NoMemory>
-    requires name { blank.name ≡ L.name }
-    requires parts { blank.parts ≡ L.parts }
-    requires some { 0 < L.parts }
-{
-    let (book, share) = blank.open::<L>();
-    let mut steps = Steps::new(book, share);
-    let mut family = Family::new(alloc, 2)?;
-    family.raise(0, 4, &mut steps);
-    let mut sums = [0, 0];
-    add_tops(&family, &mut sums);
-    let (first, second) = (sums[0], sums[1]);
-    drop_tops(&family, &mut sums);
-    Ok((first, second, sums[0]))
-}
-
-#[test]
-fn tops_are_added_and_dropped(rt: HostRuntime) -> Result<(), NoMemory> {
-    let sums = sums_of_two::<Brand>(rt.alloc(), Blank::new(1))?;
-    assert_eq!(rt; sums, (4, 0, 0));
-    Ok(())
-}
-
 /// The mate of a member.
 fn mate_of(state: &State, member: usize) -> Option<u32> {
     match state.mates.get(member) {
@@ -313,8 +289,9 @@ fn tops_that_are_looked_at_tell_their_keys(rt: HostRuntime) -> Result<(), NoMemo
     Ok(())
 }
 
-/// What three members have inside their tops where the set of all three goes, and the first one alone has a value.
-fn inners_after<L: Ledger>(alloc: Global, blank: Blank) -> Result<(u64, u64, u64), NoMemory>
+/// What three members have inside their tops where all three are one set and the first one alone has a value: as it is given,
+/// once the children are inside the set, and once they are no more.
+fn inners_after<L: Ledger>(alloc: Global, blank: Blank) -> Result<([u64; 3], [u64; 3]), NoMemory>
     requires name { blank.name ≡ L.name }
     requires parts { blank.parts ≡ L.parts }
     requires some { 0 < L.parts }
@@ -325,14 +302,17 @@ fn inners_after<L: Ledger>(alloc: Global, blank: Blank) -> Result<(u64, u64, u64
     family.raise(0, 4, &mut steps);
     let joins = [(0, 1), (1, 2), (2, 0)];
     let set = family.shrink(alloc, &[0, 1, 2], &joins, &mut steps)?;
-    let mut inners = [9, 8, 7];
-    settle(&family, &mut inners, set);
-    Ok((inners[0], inners[1], inners[2]))
+    let mut more = [9, 8, 7];
+    gather(&family, &mut more, set);
+    let mut less = [9, 8, 7];
+    settle(&family, &mut less, set);
+    Ok((more, less))
 }
 
 #[test]
 fn a_member_loses_what_its_child_has(rt: HostRuntime) -> Result<(), NoMemory> {
-    let inners = inners_after::<Brand>(rt.alloc(), Blank::new(1))?;
-    assert_eq!(rt; inners, (5, 8, 7));
+    let (more, less) = inners_after::<Brand>(rt.alloc(), Blank::new(1))?;
+    assert_eq!(rt; more, [13, 8, 7]);
+    assert_eq!(rt; less, [5, 8, 7]);
     Ok(())
 }

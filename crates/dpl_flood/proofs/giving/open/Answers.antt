@@ -8,11 +8,14 @@ use Rattle.dpl_tree.specs.Views.{forest_of}
 use Rattle.std.specs.Prelude.{slice_index}
 use Rattle.dpl_flood.specs.Forested.{dist_of}
 use Rattle.dpl_flood.specs.Givings.{AreSettled}
-use Rattle.dpl_flood.proofs.GiveLemmas.{child_inside, spent_live, stage_by, are_children}
+use Rattle.dpl_flood.proofs.GiveLemmas.{child_inside, spent_live, spent_top, stage_by, are_children}
 use Rattle.dpl_flood.proofs.giving.open.Goals as goal
 
 pub settle-requires-clause-live : goal.settle-requires-clause-live
 settle-requires-clause-live g c = spent_live c.requires.forest.0 c.args.state.now c.args.set c.requires.forest.1 c.requires.spent
+
+pub settle-requires-clause-top : goal.settle-requires-clause-top
+settle-requires-clause-top g c = spent_top c.requires.forest.0 c.args.state.now c.args.set c.requires.forest.1 c.requires.spent
 
 pub settle-requires-clause-enough : goal.settle-requires-clause-enough
 settle-requires-clause-enough g c = λ m k h top below is held. omega (

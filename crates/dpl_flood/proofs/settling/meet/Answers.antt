@@ -17,5 +17,5 @@ settle-requires-clause-keys g c =
 pub returns-clause-onward : goal.returns-clause-onward
 returns-clause-onward g c =
     let w = c.requires.meets in
-    tied_onward c.args.dual.now c.args.state.now c.tie.new.state c.settle.new.state w.met.one w.met.two c.in_ok-join.join
-    (c.in_ok-join.ensures.tied c.args.dual.now (record { forest = c.requires.forest; over = w.over; met = w.met })) c.in_ok-settle.ensures.onward
+    tied_onward c.args.dual.now c.in_ok-ended.ended c.args.state.now c.tie.new.state c.settle.new.state w.met.one w.met.two c.in_ok-join.join
+    (c.in_ok-join.ensures.tied c.args.dual.now (record { forest = c.requires.forest; over = w.over; met = w.met })) c.in_ok-ended.ensures.onward

@@ -1,4 +1,3 @@
-use Rattle.std.proofs.Common.{inr}
 use Rattle.dpl_flood.proofs.settling.settle.Goals as goal
 
 pub returns-clause-forest : goal.returns-clause-forest
@@ -8,4 +7,4 @@ pub returns-clause-keys : goal.returns-clause-keys
 returns-clause-keys g c = c.augment.ensures.keys c.args.dual.now c.args.queue.now c.requires.tied c.requires.keys
 
 pub returns-clause-onward : goal.returns-clause-onward
-returns-clause-onward g c = inr (c.augment.ensures.ended c.args.dual.now c.requires.tied)
+returns-clause-onward g c = c.augment.ensures.ended c.args.dual.now c.requires.tied

@@ -1,8 +1,8 @@
-use Rattle.std.proofs.Common.{arith, ◌≡◌, ℕ, pos, ◌+ℤ◌, zero, suc, ◌+◌, ◌%◌, ◌<◌, ◌≤◌, refl, ap, ◌∙◌, true, get_or, List, [], ◌∷◌, None, inl, inr, eq-eqb}
+use Rattle.std.proofs.Common.{arith, ◌≡◌, ℕ, pos, ◌+ℤ◌, zero, suc, ◌+◌, ◌%◌, ◌<◌, ◌≤◌, refl, ap, ◌∙◌, true, false, get_or, List, [], ◌∷◌, None, inl, inr, eq-eqb}
 use Rattle.std.proofs.lemmas.Int.{ints}
-use Rattle.std.proofs.lemmas.Bool.{cases_eq, lt-ltb}
+use Rattle.std.proofs.lemmas.Bool.{cases_eq, cases_Bool, lt-ltb}
 use Rattle.dpl_laminar.specs.Families.{Sets, IsTie, has}
-use Rattle.dpl_laminar.specs.Changes.{IsSingles, AreJoined}
+use Rattle.dpl_laminar.specs.Changes.{IsSingles, AreJoined, IsShrunk}
 use Rattle.dpl_laminar.specs.Storing.{sets_of}
 use Rattle.dpl_laminar.proofs.Numbers.{place_in}
 use Rattle.dpl_flood.proofs.tests.inners_after.Goals as goal
@@ -22,10 +22,10 @@ number_at (suc zero) h = refl
 number_at (suc (suc zero)) h = refl
 number_at (suc (suc (suc i))) h = absurd (omega arith)
 
-inside_at : (i : ℕ) → i < 3 → 4 ≤ get_or inside i 0
-inside_at zero h = omega arith
-inside_at (suc zero) h = omega arith
-inside_at (suc (suc zero)) h = omega arith
+inside_at : (i : ℕ) → i < 3 → (4 ≤ get_or inside i 0) × (get_or inside i 0 ≤ 9)
+inside_at zero h = (omega arith, omega arith)
+inside_at (suc zero) h = (omega arith, omega arith)
+inside_at (suc (suc zero)) h = (omega arith, omega arith)
 inside_at (suc (suc (suc i))) h = absurd (omega arith)
 
 is_below : (c : ℕ) → has three c ≡ true → c < 3
@@ -77,8 +77,36 @@ few f g s first others i = elim (cases_eq i 0) [
   | inr ne ↦ omega (arith, others i ne, s.value i)
 ]
 
+-- the new set is a top
+no_parent : (f g : Sets) (set : ℕ) → AreSingle f → IsShrunk f three pairs set g → g.parent set ≡ None
+no_parent f g set s w =
+    let away : has three set ≡ false = elim (cases_Bool (has three set)) [
+      | inr e ↦ e
+      | inl e ↦ absurd (omega (arith, is_below set e, w.sets.at_least, s.size))
+    ] in
+    w.sets.parent_others set away ∙ s.parent set
+
 pub shrink-requires : goal.shrink-requires
 shrink-requires g c = joined _ (singles _ _ c.in_ok-family.ensures.singles c.raise.ensures.rest)
+
+pub gather-requires-clause-top : goal.gather-requires-clause-top
+gather-requires-clause-top g c = no_parent (sets_of c.raise.new.self) (sets_of c.shrink.new.self) c.in_ok-set.set
+    (singles _ _ c.in_ok-family.ensures.singles c.raise.ensures.rest) c.in_ok-set.ensures.ok
+
+pub gather-requires-clause-small : goal.gather-requires-clause-small
+gather-requires-clause-small g c = λ m k h _ _.
+    let p = c.in_ok-set.ensures.ok in
+    let s = singles _ _ c.in_ok-family.ensures.singles c.raise.ensures.rest in
+    omega (
+      arith,
+      (inside_at m (omega (arith, h, p.size, s.size))).1,
+      p.value k,
+      few (sets_of c.in_ok-family.family) (sets_of c.raise.new.self) c.in_ok-family.ensures.singles c.raise.ensures.value c.raise.ensures.others k,
+    )
+
+pub settle-requires-clause-top : goal.settle-requires-clause-top
+settle-requires-clause-top g c = no_parent (sets_of c.raise.new.self) (sets_of c.shrink.new.self) c.in_ok-set.set
+    (singles _ _ c.in_ok-family.ensures.singles c.raise.ensures.rest) c.in_ok-set.ensures.ok
 
 pub settle-requires-clause-enough : goal.settle-requires-clause-enough
 settle-requires-clause-enough g c = λ m k h _ _ _ _.
@@ -86,7 +114,7 @@ settle-requires-clause-enough g c = λ m k h _ _ _ _.
     let s = singles _ _ c.in_ok-family.ensures.singles c.raise.ensures.rest in
     omega (
       arith,
-      inside_at m (omega (arith, h, p.size, s.size)),
+      (inside_at m (omega (arith, h, p.size, s.size))).0,
       p.value k,
       few (sets_of c.in_ok-family.family) (sets_of c.raise.new.self) c.in_ok-family.ensures.singles c.raise.ensures.value c.raise.ensures.others k,
     )

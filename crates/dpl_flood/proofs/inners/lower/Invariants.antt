@@ -1,0 +1,7 @@
+use Rattle.dpl_laminar.specs.Storing.{sets_of}
+use Rattle.dpl_flood.specs.Inners.{Loses}
+use Rattle.dpl_flood.proofs.InnerLemmas.{AreMoved}
+use Rattle.dpl_flood.proofs.inners.lower.Given as goal
+
+abbrev pub invariant-loop-i : goal.invariant-loop-i
+invariant-loop-i l = AreMoved l.members l.i (Loses ((sets_of l.family).value l.child)) l.fn.inners l.inners
