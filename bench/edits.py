@@ -263,16 +263,16 @@ def level_wires(n: int) -> list[Box]:
 def limits() -> Iterator[tuple[str, list[str], list[Box], list[str], str | None]]:
     """A name, words, boxes, the lines and the error line that is due."""
     near, far = (300, 0, 500, 200), (1_000_000, 0, 1_000_200, 200)
-    yield "a primitive too many", SPACING, [(0, 0, 200, 200)] * 50_000, [run.add(near)], "limit 2 count 50001"
-    yield "as many primitives as may be", SPACING, [(0, 0, 200, 200)] * 49_999, [run.add(near), "remove 0", run.add(near)], None
+    yield "a primitive too many", SPACING, [(0, 0, 200, 200)] * 1_000_000, [run.add(near)], "limit 2 count 1000001"
+    yield "as many primitives as may be", SPACING, [(0, 0, 200, 200)] * 999_999, [run.add(near), "remove 0", run.add(near)], None
     small = ["--layer", "M", "--space", "10", "--overlap", "5"]
-    upright, beside = (5, 0, 15, 40 * 33_400), (30, 0, 40, 40 * 33_400)
-    wires = [*level_wires(33_400), (5, 0, 7, 40 * 33_400)]
-    yield "tiles by a box that comes", [*small[:-1], "50"], wires, [run.add((10, 0, 12, 40 * 33_400))], "limit 5 count 100001"
-    yield "fragments by a box that goes", small, level_wires(33_400), [run.add(beside), run.add(upright), "remove 0"], "limit 6 count 100001"
-    yield "fragments by a box that comes", small, level_wires(33_400), [run.add(upright)], "limit 6 count 100001"
-    units = halves(run.unit_boxes(895))
-    yield "edges by a box that comes", SPACING, units[:-1], [run.add(units[-1])], "limit 7 count 400001"
+    upright, beside = (5, 0, 15, 40 * 666_700), (30, 0, 40, 40 * 666_700)
+    wires = [*level_wires(666_700), (5, 0, 7, 40 * 666_700)]
+    yield "tiles by a box that comes", [*small[:-1], "50"], wires, [run.add((10, 0, 12, 40 * 666_700))], "limit 5 count 2000001"
+    yield "fragments by a box that goes", small, level_wires(666_700), [run.add(beside), run.add(upright), "remove 0"], "limit 6 count 2000001"
+    yield "fragments by a box that comes", small, level_wires(666_700), [run.add(upright)], "limit 6 count 2000001"
+    units = halves(run.unit_boxes(1_001))
+    yield "edges by a box that comes", SPACING, units[:-1], [run.add(units[-1])], "limit 7 count 500001"
     strip = halves(run.strip(2_051))
     x, y, _, _ = strip[2_049]
     joint = (x, y - 100, x + 50, y)

@@ -144,15 +144,15 @@ def layouts() -> Iterator[tuple[str, bytes, int, int | str]]:
     ring = run.nested_definitions(100_000, "C 100000;")
     yield "100,000 definitions in a ring", ring, 3, "layout 13 at command 2"
     yield "50,000 boxes by calls", run.tenfold(5, box, "C 5;" * 5), 0, 1
-    yield "50,001 boxes by calls", run.tenfold(5, box, "C 5;" * 5 + box), 4, "limit 2 count 50001"
+    yield "1,000,001 boxes by calls", run.tenfold(4, box * 100, "C 4;" * 10 + box), 4, "limit 2 count 1000001"
     yield "1,000,000 calls", run.tenfold(6, "", "C 6;" * 9 + "C 1;"), 0, 0
     yield "1,000,001 calls", run.tenfold(6, "", "C 6;" * 9 + "C 1;" * 2), 4, "limit 3 count 1000001"
-    yield "895 boxes, each two a clash", run.layout(run.unit_boxes(895)), 4, "limit 7 count 400001"
-    tiles = [*run.hundred_thousand_tiles(), (1000, 0, 1010, 10)]
-    yield "100,001 tiles", run.layout(tiles), 4, "limit 5 count 100001"
+    yield "1,001 boxes, each two a clash", run.layout(run.unit_boxes(1_001)), 4, "limit 7 count 500001"
+    tiles = [*run.two_million_tiles(), (1000, 0, 1010, 10)]
+    yield "2,000,001 tiles", run.layout(tiles), 4, "limit 5 count 2000001"
 
 
-MOST = 268_435_456
+MOST = 2_147_483_648
 
 
 def repeated(part: bytes, room: int) -> Iterator[bytes]:
@@ -235,7 +235,7 @@ def main() -> int:
             else:
                 is_right = b"(fragments %d);\n" % due in ended.stdout[:1000]
             told(name, ended, seconds, memory, ended.returncode == status and is_right)
-        for spaces, status, refused in ((268_435_456, 1, b"rejected 1 place 1 found 0 wanted 0"), (268_435_457, 4, b"limit 9 count 268435457")):
+        for spaces, status, refused in ((MOST, 1, b"rejected 1 place 1 found 0 wanted 0"), (MOST + 1, 4, b"limit 9 count 2147483649")):
             with open(report, "wb") as target:
                 for _ in range(0, spaces, 1 << 20):
                     target.write(b" " * (1 << 20))

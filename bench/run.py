@@ -34,8 +34,8 @@ Boxes = Iterator[Box]
 # seconds of processor time, peak megabytes, and an exit status or `late`
 Run = Tuple[float, float, str]
 
-MOST_BYTES = 16_777_216
-MOST_REPORT = 268_435_456
+MOST_BYTES = 67_108_864
+MOST_REPORT = 2_147_483_648
 OPTIONS = ["--layer", "M", "--space", "100", "--overlap", "20"]
 GREAT = [*OPTIONS, "--stitch", "100000", "--conflict", "1000000"]
 COPRIME = [*OPTIONS, "--stitch", "99991", "--conflict", "999983"]
@@ -77,29 +77,29 @@ BOX = "L M;B 2 2 0 0;"
 
 
 def texts() -> Iterator[tuple[str, bytes]]:
-    yield "16 MB of spaces", filled(b" ")
-    yield "16 MB of nested comments", filled(b"(a(b(c)d)e);")
+    yield "67 MB of spaces", filled(b" ")
+    yield "67 MB of nested comments", filled(b"(a(b(c)d)e);")
     yield "one comment 1 million deep", b"(" * 1_000_000 + b")" * 1_000_000 + b";E"
     yield "one comment 4 million deep", b"(" * 4_000_000 + b")" * 4_000_000 + b";E"
-    yield "16 MB of boxes on another layer", filled(b"B 100 100 50 50;", b"L P;")
-    yield "16 MB of user extensions", filled(b"9 a remark;")
+    yield "67 MB of boxes on another layer", filled(b"B 100 100 50 50;", b"L P;")
+    yield "67 MB of user extensions", filled(b"9 a remark;")
     yield "100,000 nested definitions", nested_definitions(100_000)
     yield "100,000 definitions in a ring, refused", nested_definitions(100_000, "C 100000;")
     yield "50,000 boxes by 55,555 calls", tenfold(5, BOX, "C 5;" * 5)
-    yield "50,001 boxes by 55,555 calls, refused", tenfold(5, BOX, "C 5;" * 5 + BOX)
+    yield "1,000,001 boxes by 11,110 calls, refused", tenfold(4, BOX * 100, "C 4;" * 10 + BOX)
     yield "1,000,000 calls of nothing", tenfold(6, "", "C 6;" * 9 + "C 1;")
     yield "1,000,001 calls of nothing, refused", tenfold(6, "", "C 6;" * 9 + "C 1;" * 2)
     yield "2^31 calls, refused", doubling(31)
-    yield "16 MB of calls, refused", filled(b"C1;", b"DS 1;L M;B 2 2 0 0;DF;")
+    yield "67 MB of calls, refused", filled(b"C1;", b"DS 1;L M;B 2 2 0 0;DF;")
     yield "one wire of 4,194,000 points, refused", ("L M;W2" + " 0 0" * 4_194_000 + ";E").encode()
     yield "one polygon of 4,194,000 points, refused", ("L M;P" + " 0 0" * 4_194_000 + ";E").encode()
-    yield "100,000 contacts, refused", layout(contacts(100_000, 300))
-    yield "100,000 tiles of crossing wires", layout(hundred_thousand_tiles())
-    yield "100,001 tiles, refused", layout([*hundred_thousand_tiles(), (1000, 0, 1010, 10)])
-    yield "263,168 tiles, refused", layout(crossing(512))
-    yield "894 boxes, each two a clash", layout(unit_boxes(894))
-    yield "895 boxes, each two a clash, refused", layout(unit_boxes(895))
-    yield "105,000 fragments, refused", layout(many_cuts())
+    yield "1,000,000 contacts", layout(contacts(1_000_000, 300))
+    yield "2,000,000 tiles of crossing wires", layout(two_million_tiles())
+    yield "2,000,001 tiles, refused", layout([*two_million_tiles(), (1000, 0, 1010, 10)])
+    yield "263,168 tiles", layout(crossing(512))
+    yield "1,000 boxes, each two a clash", layout(unit_boxes(1_000))
+    yield "1,001 boxes, each two a clash, refused", layout(unit_boxes(1_001))
+    yield "105,000 fragments", layout(many_cuts())
 
 
 # ---- layouts, as boxes by their corners in hundredths, or as a polygon
@@ -152,10 +152,10 @@ def crossing(side: int) -> Boxes:
     yield from ((0, 40 * j + 20, 40 * side, 40 * j + 30) for j in range(side))
 
 
-def hundred_thousand_tiles() -> Boxes:
-    """Ten upright wires and 9,090 level ones."""
-    yield from ((40 * i, 0, 40 * i + 10, 363_600) for i in range(10))
-    yield from ((0, 40 * j + 20, 400, 40 * j + 30) for j in range(9_090))
+def two_million_tiles() -> Boxes:
+    """Two upright wires and 666,666 level ones."""
+    yield from ((40 * i, 0, 40 * i + 10, 26_666_640) for i in range(2))
+    yield from ((0, 40 * j + 20, 400, 40 * j + 30) for j in range(666_666))
 
 
 def unit_boxes(n: int) -> Boxes:
@@ -715,10 +715,10 @@ def main() -> None:
     for name, text in texts():
         if asked.only in name:
             report(name, len(text), least(asked, ["split", *OPTIONS], text))
-    for name, size in (("a report of 268 MB of spaces", MOST_REPORT), ("one more space, refused", MOST_REPORT + 1)):
+    for name, size in (("a report of 2,147 MB of spaces", MOST_REPORT), ("one more space, refused", MOST_REPORT + 1)):
         if asked.only in name:
             report(name, size, check_spaces(asked, size))
-    if asked.only in (name := "the greatest report, 16 MB of empty commands"):
+    if asked.only in (name := "the greatest report, 67 MB of empty commands"):
         report(name, MOST_REPORT, check_spaces(asked, MOST_REPORT, filled(b";")))
     for name, size, boxes in layouts():
         if asked.only in name:

@@ -18,15 +18,15 @@ PARTS = "chip/run splits what is larger, part by part (docs/chip.md)"
 
 # what is counted, the most, and what to do
 LIMITS = {
-    1: ("bytes of the layout", 16_777_216, "leave out layers and labels that are not wanted, as tools/import --layer does"),
-    2: ("primitives after all calls, a polygon as many times as it has points", 50_000, PARTS),
+    1: ("bytes of the layout", 67_108_864, "leave out layers and labels that are not wanted, as tools/import --layer does"),
+    2: ("primitives after all calls, a polygon as many times as it has points", 1_000_000, PARTS),
     3: ("calls carried out", 1_000_000, "leave out cells that have nothing on the layer, as tools/import --layer does"),
     4: ("grid units from the origin to a corner", 1_073_741_824, "move the block to the origin"),
-    5: ("tiles", 100_000, PARTS),
-    6: ("fragments", 100_000, f"{PARTS}; a larger overlap gives fewer cuts"),
-    7: ("bonds, stitches and clashes", 400_000, f"{PARTS}; a smaller spacing gives fewer clashes"),
-    9: ("bytes of the report", 268_435_456, "is this the report of this layout?"),
-    10: ("bytes of the script", 65_536, "draw the boxes that stay in the layout, and give the other lines"),
+    5: ("tiles", 2_000_000, PARTS),
+    6: ("fragments", 2_000_000, f"{PARTS}; a larger overlap gives fewer cuts"),
+    7: ("bonds, stitches and clashes", 500_000, f"{PARTS}; a smaller spacing gives fewer clashes"),
+    9: ("bytes of the report", 2_147_483_648, "is this the report of this layout?"),
+    10: ("bytes of the script", 1_048_576, "draw the boxes that stay in the layout, and give the other lines"),
 }
 
 CONDITIONS = {

@@ -9,7 +9,7 @@ from typing import List, Optional
 from kit import Ended
 from words import escaped
 
-MOST_LAYOUT = 16_777_216
+MOST_LAYOUT = 67_108_864
 
 
 def is_terminal(named: Optional[str]) -> bool:

@@ -18,7 +18,7 @@ from writing import Chosen, lines
 
 FIGURES = DRAWN | OTHERS
 MOST_NAME = 31
-MOST_BYTES = 16_777_216
+MOST_BYTES = 67_108_864
 
 
 def run(words: str, target: str, said: str) -> None:

@@ -1,10 +1,10 @@
--- A call has no more transformations than its command has bytes.
-use Rattle.std.proofs.Common.{◌≡◌, ℕ, zero, suc, ◌+◌, ◌-◌, ◌≤◌, ◌^◌, Bool, true, false, cond, ◌==◌, List, [], ◌∷◌}
-use Rattle.std.proofs.Common.{length, take, drop, Option, None, Some, Result, Ok, Err, refl, subst, arith, unsigned_abs}
+-- A call has at most half as many transformations as its command has bytes.
+use Rattle.std.proofs.Common.{◌≡◌, ℕ, zero, suc, ◌+◌, ◌-◌, ◌*◌, ◌≤◌, ◌^◌, Bool, true, false, cond, ◌==◌, List, [], ◌∷◌}
+use Rattle.std.proofs.Common.{length, take, drop, Option, None, Some, Result, Ok, Err, refl, subst, arith, unsigned_abs, ℤ}
 use Rattle.std.specs.List.{prefix_len, list_all, slice_range}
 use Rattle.std.proofs.lemmas.Grind.{common_steps}
 use Rattle.dpl_lex.specs.Classes.{is_digit, is_separator, is_blank, is_name_byte, drop_while}
-use Rattle.dpl_lex.specs.Number.{digits_value, digits_at, unsigned_at, of_magnitude}
+use Rattle.dpl_lex.specs.Number.{digits_value, digits_at, unsigned_at, signed_digits_at, signed_at, of_magnitude, of_negated}
 use Rattle.dpl_lex.specs.Name.{is_name}
 use Rattle.dpl_lex.specs.declared.number.Num.{Num}
 use Rattle.dpl_lex.specs.declared.number.Num.TheVariants.{Value, Big, Nothing}
@@ -13,9 +13,10 @@ use Rattle.dpl_rules.specs.declared.command.Command.{Command}
 use Rattle.dpl_rules.specs.declared.command.Command.TheVariants.{Idle, Polygon, Box, Wire, Flash, Layer, Start, Finish, Delete, Call}
 use Rattle.dpl_rules.specs.declared.command.Spot.{Spot}
 use Rattle.dpl_rules.specs.declared.command.Transformation.{Transformation}
+use Rattle.dpl_rules.specs.declared.command.Transformation.TheVariants.{Shift, MirrorX, MirrorY, Rotate}
 use Rattle.dpl_rules.specs.declared.what.What.{What}
 use Rattle.dpl_rules.specs.declared.what.What.TheVariants.{Syntax, Number}
-use Rattle.dpl_rules.specs.Readers.{◌>>=◌, complete, repeated, and_repeated, not_empty, number_at_front, unsigned_of, spot_of, letter}
+use Rattle.dpl_rules.specs.Readers.{◌>>=◌, or_else, complete, repeated, and_repeated, not_empty, number_at_front, unsigned_of, signed_of, spot, spot_of, at_front, letter}
 use Rattle.dpl_rules.specs.Forms as f
 use Rattle.dpl_rules.specs.Forms.{transformation_of, form_of}
 use Rattle.dpl_rules.specs.Bounds.{is_command_in_bounds, bounded, command_of, read_commands}
@@ -66,37 +67,132 @@ on_if : (b : Bool) (x y : Option Command) → OnSome x → OnSome y → OnSome (
 on_if true x y h k = h
 on_if false x y h k = k
 
-one_more : {X : Type 0} (o : Option (X × List ℕ)) (bytes : List ℕ) (n : ℕ) (more : List ℕ → List X × List ℕ)
-    → ((bs : List ℕ) → length (more bs).0 ≤ n) → length (and_repeated o bytes more).0 ≤ suc n
-one_more None bytes n more h = omega arith
-one_more (Some x) bytes n more h = omega (arith, h x.1)
+-- of so many bytes what is read passes this many, or nothing is read
+abbrev Passes : {X : Type 0} → ℕ → ℕ → Option (X × List ℕ) → Type 0
+Passes k m None = Unit {0}
+Passes k m (Some x) = length x.1 + k ≤ m
 
-many_count : {X : Type 0} (read : List ℕ → Option (X × List ℕ)) (n : ℕ) (bytes : List ℕ) → length (repeated read n bytes).0 ≤ n
-many_count read zero bytes = omega arith
-many_count read (suc n) bytes = one_more (read bytes) bytes n (repeated read n) (λ bs. many_count read n bs)
+-- a letter passes one at least
+abbrev LetterLeaves : ℕ → Option (List ℕ) → Type 0
+LetterLeaves m None = Unit {0}
+LetterLeaves m (Some rest) = length rest + 1 ≤ m
 
-abbrev LeIf : ℕ → Option (ℕ × List ℕ) → Type 0
-LeIf m None = Unit {0}
-LeIf m (Some x) = length x.1 ≤ m
+letter_leaves : (b : ℕ) (bytes : List ℕ) → LetterLeaves (length bytes) (letter b bytes)
+letter_leaves b bytes = front (drop_while is_blank bytes) (dropped is_blank bytes)
+  where
+    kept : (t : Bool) (c : ℕ) (rest : List ℕ) → length (c ∷ rest) ≤ length bytes → LetterLeaves (length bytes) (cond t (Some rest) None)
+    kept true c rest h = omega (arith, h)
+    kept false c rest h = tt
 
-taken_le : (n : Num) (rest : List ℕ) (m : ℕ) → length rest ≤ m → LeIf m (number_at_front n rest >>= λ z. Some (unsigned_abs z.0, z.1))
-taken_le (Value z) rest m h = h
-taken_le Big rest m h = h
-taken_le Nothing rest m h = tt
+    front : (bs : List ℕ) → length bs ≤ length bytes → LetterLeaves (length bytes) (at_front b bs)
+    front [] h = tt
+    front (c ∷ rest) h = kept (c == b) c rest h
 
-unsigned_le : (bytes : List ℕ) → LeIf (length bytes) (unsigned_of bytes)
-unsigned_le bytes = taken_le (unsigned_at bytes).0 (unsigned_at bytes).1 (length bytes)
+number_passes : (n : Num) (rest : List ℕ) (m : ℕ) → length rest + 1 ≤ m → Passes 1 m (number_at_front n rest)
+number_passes (Value z) rest m h = h
+number_passes Big rest m h = h
+number_passes Nothing rest m h = tt
+
+unsigned_le : (bytes : List ℕ) → Passes 0 (length bytes) (unsigned_of bytes)
+unsigned_le bytes = taken (unsigned_at bytes).0 (unsigned_at bytes).1
     (digits_left of_magnitude bytes (drop_while is_separator bytes) (dropped is_separator bytes))
+  where
+    taken : (n : Num) (rest : List ℕ) → length rest ≤ length bytes
+        → Passes 0 (length bytes) (number_at_front n rest >>= λ z. Some (unsigned_abs z.0, z.1))
+    taken (Value z) rest h = omega (arith, h)
+    taken Big rest h = omega (arith, h)
+    taken Nothing rest h = tt
 
-call_few : (o : Option (ℕ × List ℕ)) (m : ℕ) → m ≤ 2 ^ 24 → LeIf m o
+-- digits are passed where a number is read
+digits_pass : (of : ℕ → Num) (all bs : List ℕ) → length bs ≤ length all
+    → Passes 1 (length all) (number_at_front (digits_at of all bs).0 (digits_at of all bs).1)
+digits_pass of all [] h = tt
+digits_pass of all (b ∷ bs) h = split (is_digit b) (dropped is_digit bs)
+  where
+    split : (t : Bool) → length (drop_while is_digit bs) ≤ length bs
+        → Passes 1 (length all) (let d = cond {A = Num × List ℕ} t (of (digits_value 0 (b ∷ bs)), cond t (drop_while is_digit bs) (b ∷ bs)) (Nothing, all) in number_at_front d.0 d.1)
+    split true k = number_passes (of (digits_value 0 (b ∷ bs))) (drop_while is_digit bs) (length all) (omega (arith, h, k))
+    split false k = tt
+
+signed_pass : (bytes : List ℕ) → Passes 1 (length bytes) (signed_of bytes)
+signed_pass bytes = by (drop_while is_separator bytes) (dropped is_separator bytes)
+  where
+    signed : (t : Bool) (b : ℕ) (bs : List ℕ) → length (b ∷ bs) ≤ length bytes
+        → Passes 1 (length bytes) (let d = cond t (digits_at of_negated bytes bs) (digits_at of_magnitude bytes (b ∷ bs)) in number_at_front d.0 d.1)
+    signed true b bs h = digits_pass of_negated bytes bs (omega (arith, h))
+    signed false b bs h = digits_pass of_magnitude bytes (b ∷ bs) h
+
+    by : (bs : List ℕ) → length bs ≤ length bytes
+        → Passes 1 (length bytes) (let d = signed_digits_at bytes bs in number_at_front d.0 d.1)
+    by [] h = tt
+    by (b ∷ bs) h = signed (b == 45) b bs h
+
+spot_pass : (bytes : List ℕ) → Passes 1 (length bytes) (spot_of bytes)
+spot_pass bytes = first (signed_of bytes) (signed_pass bytes)
+  where
+    second : (x : ℤ) (m : ℕ) (o : Option (ℤ × List ℕ)) → m + 1 ≤ length bytes → Passes 1 m o
+        → Passes 1 (length bytes) (o >>= λ y. Some (spot x y.0, y.1))
+    second x m None l h = tt
+    second x m (Some y) l h = omega (arith, l, h)
+
+    first : (o : Option (ℤ × List ℕ)) → Passes 1 (length bytes) o
+        → Passes 1 (length bytes) (o >>= λ x. signed_of x.1 >>= λ y. Some (spot x.0 y.0, y.1))
+    first None h = tt
+    first (Some x) h = second x.0 (length x.1) (signed_of x.1) h (signed_pass x.1)
+
+-- a letter and a point
+point_passes : (make : Spot → Transformation) (bytes : List ℕ) (o : Option (List ℕ)) → LetterLeaves (length bytes) o
+    → Passes 2 (length bytes) (o >>= λ rest. spot_of rest >>= λ by. Some (make by.0, by.1))
+point_passes make bytes None h = tt
+point_passes make bytes (Some rest) h = behind (spot_of rest) (spot_pass rest)
+  where
+    behind : (o : Option (Spot × List ℕ)) → Passes 1 (length rest) o → Passes 2 (length bytes) (o >>= λ by. Some (make by.0, by.1))
+    behind None k = tt
+    behind (Some by) k = omega (arith, h, k)
+
+-- two letters
+letters_pass : (what : Transformation) (bytes : List ℕ) (b : ℕ) (o : Option (List ℕ)) → LetterLeaves (length bytes) o
+    → Passes 2 (length bytes) (o >>= λ rest. letter b rest >>= λ behind. Some (what, behind))
+letters_pass what bytes b None h = tt
+letters_pass what bytes b (Some rest) h = behind (letter b rest) (letter_leaves b rest)
+  where
+    behind : (o : Option (List ℕ)) → LetterLeaves (length rest) o → Passes 2 (length bytes) (o >>= λ behind. Some (what, behind))
+    behind None k = tt
+    behind (Some left) k = omega (arith, h, k)
+
+either_passes : (m : ℕ) (o p : Option (Transformation × List ℕ)) → Passes 2 m o → Passes 2 m p → Passes 2 m (or_else o p)
+either_passes m None p h k = k
+either_passes m (Some x) p h k = h
+
+transformation_passes : (bytes : List ℕ) → Passes 2 (length bytes) (transformation_of bytes)
+transformation_passes bytes = either_passes m _ _ (point_passes Shift bytes (letter 84 bytes) (letter_leaves 84 bytes))
+    (either_passes m _ _ (letters_pass MirrorX bytes 88 (letter 77 bytes) (letter_leaves 77 bytes))
+    (either_passes m _ _ (letters_pass MirrorY bytes 89 (letter 77 bytes) (letter_leaves 77 bytes))
+    (point_passes Rotate bytes (letter 82 bytes) (letter_leaves 82 bytes))))
+  where
+    m : ℕ
+    m = length bytes
+
+one_more : (n : ℕ) (bytes : List ℕ) (o : Option (Transformation × List ℕ)) → Passes 2 (length bytes) o
+    → ((bs : List ℕ) → 2 * length (repeated transformation_of n bs).0 ≤ length bs)
+    → 2 * length (and_repeated o bytes (repeated transformation_of n)).0 ≤ length bytes
+one_more n bytes None h more = omega arith
+one_more n bytes (Some x) h more = omega (arith, h, more x.1)
+
+-- two bytes for each
+twice_few : (n : ℕ) (bytes : List ℕ) → 2 * length (repeated transformation_of n bytes).0 ≤ length bytes
+twice_few zero bytes = omega arith
+twice_few (suc n) bytes = one_more n bytes (transformation_of bytes) (transformation_passes bytes) (λ bs. twice_few n bs)
+
+call_few : (o : Option (ℕ × List ℕ)) (m : ℕ) → m ≤ 2 ^ 26 → Passes 0 m o
     → OnSome (o >>= λ n. complete (Call n.0 (repeated transformation_of (length n.1) n.1).0) (repeated transformation_of (length n.1) n.1).1)
 call_few None m h k = tt
 call_few (Some n) m h k =
     let found : List Transformation × List ℕ = repeated transformation_of (length n.1) n.1 in
-    let few : length found.0 ≤ 2 ^ 24 = omega (arith, many_count transformation_of (length n.1) n.1) in
+    let few : length found.0 ≤ 2 ^ 25 = omega (arith, twice_few (length n.1) n.1) in
     on_complete (Call n.0 found.0) found.1 few
 
-on_call : (bytes : List ℕ) → length bytes ≤ 2 ^ 24 → OnSome (f.call_of bytes)
+on_call : (bytes : List ℕ) → length bytes ≤ 2 ^ 26 → OnSome (f.call_of bytes)
 on_call bytes h = call_few (unsigned_of bytes) (length bytes) h (unsigned_le bytes)
 
 on_comment : (depth : ℕ) (bytes : List ℕ) → OnSome (f.comment_of depth bytes)
@@ -179,7 +275,7 @@ on_box bytes = by (unsigned_of bytes)
     by None = tt
     by (Some l) = second l (unsigned_of l.1)
 
-pub on_form : (bytes : List ℕ) → length bytes ≤ 2 ^ 24 → OnSome (form_of bytes)
+pub on_form : (bytes : List ℕ) → length bytes ≤ 2 ^ 26 → OnSome (form_of bytes)
 on_form [] h = tt
 on_form (b ∷ bytes) h =
     on_if (is_digit b) (Some Idle) _ tt
@@ -210,7 +306,7 @@ fit_cons (Ok c) rest h k = let f = h c refl in (f.0, f.1, k)
 slice_short : (text : List ℕ) (a b : ℕ) → length (slice_range text a b) ≤ length text
 slice_short text a b = grind (arith, common_steps)
 
-pub all_fit : (text : List ℕ) (spans : List Span) → length text ≤ 2 ^ 24 → AllFit (read_commands text spans)
+pub all_fit : (text : List ℕ) (spans : List Span) → length text ≤ 2 ^ 26 → AllFit (read_commands text spans)
 all_fit text [] h = tt
 all_fit text (s ∷ ss) h =
     fit_cons (command_of (slice_range text s.start s.end)) (read_commands text ss)

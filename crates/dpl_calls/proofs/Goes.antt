@@ -70,7 +70,7 @@ module _ (b : Bodies) (f g : Frame) (e : Entry) (split : f.rest.now ≡ e ∷ g.
   rest_near : (n m : ℕ) → n ≤ m → IsFrameNear n f → IsFrameNear m g
   rest_near n m le h =
       let parts : left f ≡ entry_part e ∷ left g = ap (λ (es : List Entry). map entry_part es) split in record {
-        place = subst (IsNear (m * 2 ^ 106)) (sym place) (near_more n m f le h).place;
+        place = subst (IsNear (m * 2 ^ 107)) (sym place) (near_more n m f le h).place;
         entries = All-tail IsEntryNear e g.rest.now (subst (All IsEntryNear) split h.entries);
         parts = All-tail IsPartKept (entry_part e) (left g) (subst (All IsPartKept) parts h.parts);
       }
@@ -140,7 +140,7 @@ module _ (b : Bodies) (f g : Frame) (e : Entry) (split : f.rest.now ≡ e ∷ g.
       )
 
   -- a call in the last frame
-  called_near : (n at m : ℕ) (p : Placement) → e ≡ entry.Called at m p → IsFrameNear n f → IsNear (2 ^ 106) p
+  called_near : (n at m : ℕ) (p : Placement) → e ≡ entry.Called at m p → IsFrameNear n f → IsNear (2 ^ 107) p
   called_near n at m p ee h =
       let first : IsEntryNear e = All-head IsEntryNear e g.rest.now (subst (All IsEntryNear) split h.entries) in
       subst IsEntryNear ee first
@@ -159,7 +159,7 @@ pub goes_start : (b : Bodies) (depth : ℕ) (f : Frame) (s : List Figure) (fs : 
     → Goes b (figures_of depth b (λ c. c) (b None)) (total_of own_calls depth b (b None)) s fs 0
 goes_start b depth f s fs es efs ed er place near entries parts =
     let same : apply f.place ≡ (λ c. c) = fun_ext place in
-    let zero_near : IsNear (0 * 2 ^ 106) f.place = record { x = omega (arith, near.x); y = omega (arith, near.y) } in record {
+    let zero_near : IsNear (0 * 2 ^ 107) f.place = record { x = omega (arith, near.x); y = omega (arith, near.y) } in record {
       figures_come = rw (es, efs, ed, er, same) refl;
       calls_come = rw (efs, ed, er) (omega arith);
       near = rw efs (one_near 0 f (record { place = zero_near; entries = entries; parts = rw er parts }));
@@ -198,7 +198,7 @@ module _ (b : Bodies) (all : List Figure) (t : ℕ) (s : List Figure) (fs stack 
   pub frame_near : IsFrameNear n f
   frame_near = last_near b all t s fs f n here
 
-  pub called_at : (at m : ℕ) (p : Placement) → e ≡ entry.Called at m p → IsNear (2 ^ 106) p
+  pub called_at : (at m : ℕ) (p : Placement) → e ≡ entry.Called at m p → IsNear (2 ^ 107) p
   called_at at m p ee = called_near b f g e split place below n at m p ee frame_near
 
   pub drawn_at : (figure : Figure) → e ≡ entry.Drawn figure → IsFigureNear figure
@@ -206,8 +206,8 @@ module _ (b : Bodies) (all : List Figure) (t : ℕ) (s : List Figure) (fs stack 
 
 -- the frame of a call
 pub child_near : (n : ℕ) (f c : Frame) (p : Placement)
-    → ((a b : ℕ) → IsNear a f.place → IsNear b p → IsNear (a + b) c.place) → IsNear (2 ^ 106) p
+    → ((a b : ℕ) → IsNear a f.place → IsNear b p → IsNear (a + b) c.place) → IsNear (2 ^ 107) p
     → IsFrameNear n f → All IsEntryNear c.rest.now → All IsPartKept (left c) → IsFrameNear (n + 1) c
 child_near n f c p place near h entries parts =
-    let q : IsNear (n * 2 ^ 106 + 2 ^ 106) c.place = place (n * 2 ^ 106) (2 ^ 106) h.place near in
+    let q : IsNear (n * 2 ^ 107 + 2 ^ 107) c.place = place (n * 2 ^ 107) (2 ^ 107) h.place near in
     record { place = record { x = omega (arith, q.x); y = omega (arith, q.y) }; entries = entries; parts = parts }

@@ -26,6 +26,7 @@ use Rattle.dpl_calls.proofs.Cases.{of_eq}
 use Rattle.dpl_calls.proofs.Few.{AllFit}
 use Rattle.dpl_calls.proofs.FirstCalls.{rising_more}
 use Rattle.std.proofs.lemmas.List.Elements.{filter-append}
+use Rattle.dpl_limits.specs.declared.TheConstants.{MOST_LAYOUT_BYTES}
 
 put_more : {A : Type 0} (t : Bool) (b xs more : List A) → cond t (b ++ xs) b ++ more ≡ b ++ (cond t xs [] ++ more)
 put_more true b xs more = append_assoc b xs more
@@ -133,7 +134,7 @@ pub record IsUnderWay (layer text : List ℕ) (commands : Commands) (table : Tab
   pub scans : Scans layer (read_commands text commands.spans) (read_commands text rest) commands.ending table scope at
   pub within : AreWithin (length text) rest
   pub fit : AllFit (read_commands text rest)
-  pub count : at + length rest ≤ 16777217
+  pub count : at + length rest ≤ MOST_LAYOUT_BYTES + 1
   pub scale : IsScale scope.scale
   pub known : IsKnown table scope.definition
 

@@ -7,4 +7,4 @@ use Rattle.dpl_calls.specs.Placement.{IsNear}
 -- a call shifts no farther than that
 abbrev pub IsEntryNear : Entry → Type 0
 IsEntryNear (Drawn figure) = Unit {0}
-IsEntryNear (Called at n p) = IsNear (2 ^ 106) p
+IsEntryNear (Called at n p) = IsNear (2 ^ 107) p

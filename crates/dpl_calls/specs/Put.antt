@@ -40,5 +40,5 @@ IsKnown t (Some n) = IsSome (get nat_eq t.definitions n)
 
 -- a call has no more transformations than its text has bytes
 abbrev pub IsFew : Command → Type 0
-IsFew (Call n transformations) = length transformations ≤ 2 ^ 24
+IsFew (Call n transformations) = length transformations ≤ 2 ^ 25
 IsFew c = Unit {0}

@@ -51,7 +51,7 @@ calls_left bodies fs = sum_by (frame_calls bodies) fs
 
 -- a frame after so many calls
 pub record IsFrameNear (done : ℕ) (f : Frame) : Type 0 where
-  pub place : IsNear (done * 2 ^ 106) f.place
+  pub place : IsNear (done * 2 ^ 107) f.place
   pub entries : All IsEntryNear f.rest.now
   pub parts : All IsPartKept (left f)
 

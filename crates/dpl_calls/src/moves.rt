@@ -1,5 +1,6 @@
 // How a call moves what it calls.
-ghost use Rattle.std.specs.Prelude.{◌≡◌, ◌^◌, ◌+◌, ℕ, IfOk};
+ghost use Rattle.std.specs.Prelude.{◌≡◌, ◌^◌, ◌+◌, ◌*◌, ℕ, IfOk};
+ghost use Rattle.dpl_limits.specs.declared.TheConstants.{MOST_CALLS};
 ghost use Rattle.dpl_calls.specs.declared.figure.Corner.{Corner};
 ghost use Rattle.dpl_calls.specs.Placement.{apply, IsNear};
 
@@ -38,8 +39,8 @@ impl Move {
 
     /// The placement behind an outer one.
     pub fn within(&self, outer: Placement) -> Placement
-        requires outer { IsNear (2 ^ 126) outer }
-        requires inner { IsNear (2 ^ 106) self.now }
+        requires outer { IsNear (MOST_CALLS * 2 ^ 107) outer }
+        requires inner { IsNear (2 ^ 107) self.now }
         ensures value { (c : Corner) → apply result c ≡ apply outer (apply self.now c) }
         ensures near { (n m : ℕ) → IsNear n outer → IsNear m self.now → IsNear (n + m) result }
     {

@@ -1,6 +1,7 @@
 // One of eight turns, and a shift.
 ghost use Rattle.std.specs.Prelude.{◌≡◌, ◌≤◌, ◌<◌, ◌^◌, ◌+◌, ◌*◌, ℕ, ℤ, ◌+ℤ◌, true, length, unsigned_abs};
 ghost use Rattle.std.specs.List.{list_all};
+ghost use Rattle.dpl_limits.specs.declared.TheConstants.{MOST_CALLS};
 ghost use Rattle.dpl_rules.specs.Figures.{IsScale};
 ghost use Rattle.dpl_rules.specs.Bounds.{is_spot_in_bounds, is_transformation_in_bounds};
 ghost use Rattle.dpl_calls.specs.declared.figure.Corner.{Corner};
@@ -51,7 +52,7 @@ fn make(swap: bool, negate_x: bool, negate_y: bool, x: i128, y: i128) -> Placeme
 
 #[tactic(auto, unfolding(crate::specs::Placement::signed))]
 fn signed(negate: bool, z: i128) -> i128
-    requires { unsigned_abs z ≤ 2 ^ 126 }
+    requires { unsigned_abs z ≤ MOST_CALLS * 2 ^ 107 }
     ensures value { result ≡ signed negate z }
     ensures near { unsigned_abs result ≡ unsigned_abs z }
 {
@@ -60,8 +61,8 @@ fn signed(negate: bool, z: i128) -> i128
 
 /// So much farther, or less far.
 fn farther(z: i128, negate: bool, by: i128) -> i128
-    requires z { unsigned_abs z ≤ 2 ^ 126 }
-    requires by { unsigned_abs by ≤ 2 ^ 106 }
+    requires z { unsigned_abs z ≤ MOST_CALLS * 2 ^ 107 }
+    requires by { unsigned_abs by ≤ 2 ^ 107 }
     ensures value { result ≡ z +ℤ signed negate by }
     ensures near { unsigned_abs result ≤ unsigned_abs z + unsigned_abs by }
 {
@@ -123,8 +124,8 @@ fn differ(a: bool, b: bool) -> bool
 
 /// The inner placement first, and then the outer one.
 pub fn compose(outer: Placement, inner: Placement) -> Placement
-    requires outer { IsNear (2 ^ 126) outer }
-    requires inner { IsNear (2 ^ 106) inner }
+    requires outer { IsNear (MOST_CALLS * 2 ^ 107) outer }
+    requires inner { IsNear (2 ^ 107) inner }
     ensures value { (c : Corner) → apply result c ≡ apply outer (apply inner c) }
     ensures near { (n m : ℕ) → IsNear n outer → IsNear m inner → IsNear (n + m) result }
 {
@@ -147,10 +148,10 @@ pub fn compose(outer: Placement, inner: Placement) -> Placement
 pub fn placement_of(scale: Scale, transformations: &[Transformation]) -> Placement
     requires scale { IsScale scale }
     requires bounds { list_all is_transformation_in_bounds transformations.now ≡ true }
-    requires few { length transformations.now ≤ 2 ^ 24 }
+    requires few { length transformations.now ≤ 2 ^ 25 }
     ensures value { (c : Corner) → apply result c
         ≡ parts.transformed_by scale transformations.now c }
-    ensures near { IsNear (2 ^ 106) result }
+    ensures near { IsNear (2 ^ 107) result }
 {
     let mut placed = UNMOVED;
     for transformation in transformations {
@@ -162,7 +163,7 @@ pub fn placement_of(scale: Scale, transformations: &[Transformation]) -> Placeme
 #[tactic(auto, unfolding(crate::specs::Placement::signed))]
 fn along(negate: bool, z: i128, shift: i128) -> i128
     requires z { unsigned_abs z ≤ 2 ^ 82 }
-    requires shift { unsigned_abs shift ≤ 2 ^ 126 }
+    requires shift { unsigned_abs shift ≤ MOST_CALLS * 2 ^ 107 }
     ensures { result ≡ signed negate z +ℤ shift }
 {
     if negate { shift - z } else { z + shift }
@@ -170,7 +171,7 @@ fn along(negate: bool, z: i128, shift: i128) -> i128
 
 /// Where a placement puts a point.
 pub fn place(p: Placement, c: Corner) -> Corner
-    requires p { IsNear (2 ^ 126) p }
+    requires p { IsNear (MOST_CALLS * 2 ^ 107) p }
     requires c { IsCornerNear c }
     ensures { result ≡ apply p c }
 {

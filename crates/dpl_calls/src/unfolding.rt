@@ -1,5 +1,5 @@
 // The calls of a layout are carried out, without recursion.
-ghost use Rattle.std.specs.Prelude.{◌≡◌, ◌≤◌, ◌<◌, ◌^◌, List, map, All, IfOk, None};
+ghost use Rattle.std.specs.Prelude.{◌≡◌, ◌≤◌, ◌<◌, ◌^◌, ◌*◌, List, map, All, IfOk, None};
 ghost use Rattle.dpl_limits.specs.declared.TheConstants.{MOST_CALLS};
 ghost use Rattle.dpl_calls.specs.Unfolding as unfolds;
 ghost use Rattle.dpl_calls.specs.Unfolding.{figures_of};
@@ -42,7 +42,7 @@ fn place_corners(
     p: Placement,
     corners: &[Corner],
 ) -> Result<Items<Corner>, AllocError>
-    requires p { IsNear (2 ^ 126) p }
+    requires p { IsNear (MOST_CALLS * 2 ^ 107) p }
     requires near { All IsCornerNear corners.now }
     ensures { IfOk result (λ r. r ≡ map (apply p) corners.now) }
 {
@@ -54,7 +54,7 @@ fn place_corners(
 }
 
 fn place_figure(alloc: Global, p: Placement, figure: &Apart<Figure>) -> Result<Figure, AllocError>
-    requires p { IsNear (2 ^ 126) p }
+    requires p { IsNear (MOST_CALLS * 2 ^ 107) p }
     requires near { IsFigureNear figure.now }
     ensures { IfOk result (λ r. r ≡ unfolds.placed (apply p) figure.now) }
 {

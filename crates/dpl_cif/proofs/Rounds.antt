@@ -1,6 +1,7 @@
 -- The rounds of faults.
 use Rattle.std.proofs.Common.{◌≡◌, ℕ, ◌+◌, ◌≤◌, Bool, false, cond, List, [], length, map, Option, None, Some, Result, All, refl, sym, ◌∙◌, ap, subst, arith}
 use Rattle.std.proofs.lemmas.List.{length-map}
+use Rattle.dpl_limits.specs.declared.TheConstants.{MOST_LAYOUT_BYTES}
 use Rattle.indexmap.specs.IndexMap.{keys}
 use Rattle.dpl_lex.specs.Cutting.{commands_of}
 use Rattle.dpl_lex.specs.declared.types.Ending.{Ending}
@@ -27,7 +28,7 @@ use Rattle.dpl_cif.specs.Reading.{Reading, forms_of, ending_of, first_fault, bod
 use Rattle.dpl_cif.specs.Gives.{Gives}
 
 module _ (layer text : List ℕ) (t : Table) (s : IsScanned layer (forms_of text) (ending_of text) t) where
-  pub table_kept : length text ≤ 16777216 → AreKept (bodies_of t)
+  pub table_kept : length text ≤ MOST_LAYOUT_BYTES → AreKept (bodies_of t)
   table_kept short place = subst (All IsPartKept) (sym (s.bodies place))
       (bodies_kept layer at_first [] 1 (forms_of text) (ending_of text) s.clean
       (record { some = omega arith; times = omega arith; over = omega arith })

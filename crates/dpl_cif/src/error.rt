@@ -5,7 +5,7 @@ use thiserror::Error;
 /// A limit of the reader.
 #[derive(Clone, Copy, Debug, PartialEq, Eq)]
 pub enum CifLimit {
-    /// More than 50,000 primitives, a polygon counted as many times as it has points.
+    /// More than `MOST_PRIMITIVES`, a polygon counted as many times as it has points.
     Primitives = 1,
     /// More than 1,000,000 calls that are carried out.
     Calls,

@@ -130,7 +130,7 @@ fn rounds(
 
 /// The primitives of a layer after all calls, in the order in which the calls are carried out.
 ///
-/// The text has at most 16 MiB. Coordinates are in grid units of half a hundredth of a micron. The time
+/// The text has at most `MOST_LAYOUT_BYTES` bytes. Coordinates are in grid units of half a hundredth of a micron. The time
 /// grows with the length of the text and with the calls that are carried out, of which there are at most a
 /// million.
 pub fn read(alloc: Global, text: &[u8], layer: &Name) -> Result<Layout, CifError>

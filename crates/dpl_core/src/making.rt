@@ -16,7 +16,7 @@ use dpl_options::Options;
 use dpl_report::{Report, print};
 use std::alloc::Global;
 
-/// The report of a layer of a text, which has at most 16 MiB.
+/// The report of a layer of a text, which has at most `MOST_LAYOUT_BYTES` bytes.
 pub fn make(alloc: Global, text: &[u8], options: &Options) -> Result<Report, LayerError>
     requires { length text.now ≤ MOST_LAYOUT_BYTES }
     ensures made { IfOk result (λ r. IsReportOf options.now text.now (plain_report r)) }
@@ -32,7 +32,7 @@ pub fn make(alloc: Global, text: &[u8], options: &Options) -> Result<Report, Lay
     Ok(report)
 }
 
-/// The text of the report of a layer of a text, which has at most 16 MiB.
+/// The text of the report of a layer of a text, which has at most `MOST_LAYOUT_BYTES` bytes.
 pub fn split(alloc: Global, text: &[u8], options: &Options) -> Result<Vec<u8>, LayerError>
     requires { length text.now ≤ MOST_LAYOUT_BYTES }
     ensures split { IfOk result (λ v. IsSplit options.now text.now v.items) }

@@ -1,5 +1,6 @@
 -- What is known of a content that was solved.
 use Rattle.std.proofs.Common.{arith, ◌≡◌, ◌≤◌, List, length, sym, subst}
+use Rattle.dpl_limits.specs.declared.TheConstants.{MOST_FRAGMENTS}
 use Rattle.dpl_cell.specs.declared.rect.Rect.{Rect}
 use Rattle.dpl_options.specs.Options.{PlainOptions}
 use Rattle.dpl_sum.specs.declared.combining.SolvedPart.{SolvedPart}
@@ -9,7 +10,7 @@ use Rattle.dpl_edit.proofs.OrderLemmas.{rects_in_order}
 old_known : (o : PlainOptions) (s : Optimum) (parts : List SolvedPart) → IsSomeOptimum o s → AreSolved parts → AreKnown s.fragments.rects parts
 old_known o s parts h k = record {
   order = rects_in_order _ _ _ _ _ h.is.layer.is.layer;
-  few = let few : length s.fragments.rects ≤ 100000 = h.is.layer.is.few_fragments in omega (arith, few);
+  few = let few : length s.fragments.rects ≤ MOST_FRAGMENTS = h.is.layer.is.few_fragments in omega (arith, few);
   solved = k;
 }
 

@@ -1,5 +1,6 @@
 -- A content has at most one refusal, and none where it has an optimum.
 use Rattle.std.proofs.Common.{arith, ◌≡◌, ◌⊎◌, inl, inr, ◌<◌, ◌≤◌, ℕ, List, Result, Ok, Err, IfOk, IfErr, ap, ◌∙◌}
+use Rattle.dpl_limits.specs.declared.TheConstants.{MOST_PRIMITIVES}
 use Rattle.dpl_limits.specs.Limits.{number_of}
 use Rattle.dpl_limits.specs.declared.counted.Counted.TheVariants as Counted
 use Rattle.dpl_calls.specs.Totals.{shown}
@@ -20,7 +21,7 @@ pub content_once : (o : PlainOptions) (prims keep : List Primitive) → IsOnce (
 content_once o prims keep = first_once (content_reasons o prims keep)
     (over_once Counted.Primitives (prim_count prims), cells_once o (cells_in prims) (cells_in keep))
 
-few_free : (prims : List Primitive) → prim_count prims ≤ 50000 → (e : LayerError) → ¬ IsOver Counted.Primitives (prim_count prims) e
+few_free : (prims : List Primitive) → prim_count prims ≤ MOST_PRIMITIVES → (e : LayerError) → ¬ IsOver Counted.Primitives (prim_count prims) e
 few_free prims few e p = let more = p.0 in omega (arith, few, more)
 
 -- a content with an optimum is not refused
@@ -39,7 +40,7 @@ content_kind o prims keep e r = first_has (HasKind ⊥ 7) (content_reasons o pri
 -- ---- what the steps answer
 
 -- too many primitives refuse a content
-pub many_refuse : (o : PlainOptions) (prims keep : List Primitive) (kind count : ℕ) → 50000 < prim_count prims
+pub many_refuse : (o : PlainOptions) (prims keep : List Primitive) (kind count : ℕ) → MOST_PRIMITIVES < prim_count prims
     → kind ≡ number_of Counted.Primitives → count ≡ shown (prim_count prims)
     → Refuses o prims keep (layer.Limit kind count)
 many_refuse o prims keep kind count many k c =
@@ -48,7 +49,7 @@ many_refuse o prims keep kind count many k c =
 
 -- what refuses the cells refuses a content with few primitives
 pub drawn_refuses : (o : PlainOptions) (prims keep : List Primitive) (e : LayerError)
-    → prim_count prims ≤ 50000
+    → prim_count prims ≤ MOST_PRIMITIVES
     → (e ≡ layer.NoMemory) ⊎ FirstOf (cells_reasons o (cells_in prims) (cells_in keep)) e
     → (e ≡ layer.NoMemory) ⊎ Refuses o prims keep e
 drawn_refuses o prims keep e few (inl m) = inl m
@@ -56,11 +57,11 @@ drawn_refuses o prims keep e few (inr h) =
     inr (later (IsOver Counted.Primitives (prim_count prims)) (cells_reasons o (cells_in prims) (cells_in keep)) e (few_free prims few) h)
 
 -- counts up to the limit are shown as they are
-pub few_shown : (n : ℕ) → shown n ≤ 50000 → n ≤ 50000
+pub few_shown : (n : ℕ) → shown n ≤ MOST_PRIMITIVES → n ≤ MOST_PRIMITIVES
 few_shown n h = omega (arith, h)
 
 -- counts beyond the limit are beyond it as they are shown
-pub many_shown : (n : ℕ) → 50000 < shown n → 50000 < n
+pub many_shown : (n : ℕ) → MOST_PRIMITIVES < shown n → MOST_PRIMITIVES < n
 many_shown n h = omega (arith, h)
 
 -- ---- when each answer comes

@@ -5,6 +5,7 @@ use Rattle.std.specs.Prelude.{if◌then◌else◌}
 use Rattle.std.specs.List.{AllByRecursion}
 use Rattle.std.proofs.lemmas.List.Elements.{All-head, All-tail, All-get_or}
 use Rattle.std.proofs.lemmas.List.Sums.{sum_by-cons, sum_by-le, count_by-le-length}
+use Rattle.dpl_limits.specs.declared.TheConstants.{MOST_EDGES}
 use Rattle.dpl_cell.specs.declared.rect.Rect.{Rect}
 use Rattle.dpl_cell.specs.Places.{corners_of}
 use Rattle.dpl_cell.specs.Ranges.{IsRectangle}
@@ -50,7 +51,7 @@ zone_of e edge cut = record { at = record { edge = e; a = edge.a; b = edge.b }; 
 broken_of : ℕ → Edge → Broken
 broken_of e edge = record { edge = e; a = edge.a; b = edge.b }
 
-zone_fits : (e n : ℕ) (edge : Edge) (cut : Cut) → e ≤ 400000 → n < 2 ^ 31 → edge.b < n → IsZone (zone_of e edge cut)
+zone_fits : (e n : ℕ) (edge : Edge) (cut : Cut) → e ≤ MOST_EDGES → n < 2 ^ 31 → edge.b < n → IsZone (zone_of e edge cut)
 unfolding zone_of
 zone_fits e n edge cut m k b = record {
   ends = record { edge = omega (arith, m); a = omega (arith, edge.ordered, b, k); b = omega (arith, b, k) };
@@ -65,7 +66,7 @@ with_zone true least e z zs l s i f g = ((omega (arith, l, s), i), rw s f)
 with_zone false least e z zs l s i f g = g
 
 cuts_fit : (colours : List Bool) (least e n : ℕ) (edges : List Edge) (cuts : List Cut) → least ≤ e
-    → e + length edges ≤ 400000 → n < 2 ^ 31 → All (λ (d : Edge). d.b < n) edges
+    → e + length edges ≤ MOST_EDGES → n < 2 ^ 31 → All (λ (d : Edge). d.b < n) edges
     → FitFrom CutFits (λ (y : PlainZone). y.at.edge + 1) least (cuts_from colours e edges cuts)
 unfolding zone_of
 cuts_fit colours least e n [] cuts l m k b = tt
@@ -80,7 +81,7 @@ cuts_fit colours least e n (edge ∷ edges) (cut ∷ cuts) l m k b =
     (cuts_fit colours (e + 1) (e + 1) n edges left (omega arith) (omega arith) k tail)
     (cuts_fit colours least (e + 1) n edges left (omega arith) (omega arith) k tail)
 
-with_clash : (t : Bool) (least e n : ℕ) (edge : Edge) (bs : List Broken) → least ≤ e → e ≤ 400000 → n < 2 ^ 31
+with_clash : (t : Bool) (least e n : ℕ) (edge : Edge) (bs : List Broken) → least ≤ e → e ≤ MOST_EDGES → n < 2 ^ 31
     → edge.b < n → FitFrom ClashFits (λ (b : Broken). b.edge + 1) (e + 1) bs
     → FitFrom ClashFits (λ (b : Broken). b.edge + 1) least bs
     → FitFrom ClashFits (λ (b : Broken). b.edge + 1) least (where_broken t (broken_of e edge) bs)
@@ -89,7 +90,7 @@ with_clash true least e n edge bs l m k b f g = ((l, record { edge = omega (arit
 with_clash false least e n edge bs l m k b f g = g
 
 clashes_fit : (colours : List Bool) (least e n : ℕ) (edges : List Edge) → least ≤ e
-    → e + length edges ≤ 400000 → n < 2 ^ 31 → All (λ (d : Edge). d.b < n) edges
+    → e + length edges ≤ MOST_EDGES → n < 2 ^ 31 → All (λ (d : Edge). d.b < n) edges
     → FitFrom ClashFits (λ (b : Broken). b.edge + 1) least (clashes_from colours e edges)
 unfolding broken_of
 clashes_fit colours least e n [] l m k b = tt
@@ -140,7 +141,7 @@ aside_rises net n m = (aside_fits net n m).0
 
 -- ---- cycles
 
-passed_fit : (g : Signed) (v w : ℕ) (es : List ℕ) → length g.edges ≤ 400000 → IsPath g v es w → AllByRecursion IsIdentifier es
+passed_fit : (g : Signed) (v w : ℕ) (es : List ℕ) → length g.edges ≤ MOST_EDGES → IsPath g v es w → AllByRecursion IsIdentifier es
 passed_fit g v w [] l p = tt
 passed_fit g v w (e ∷ es) l p = (omega (arith, (leaves_ends g e v p.0).inside, l), passed_fit g (across (edge_at g e) v) w es l p.1)
 
@@ -155,7 +156,7 @@ start_fits g v w (e ∷ es) s p =
       | inr t ↦ omega (arith, below, t.0, g.few_nodes)
     ]
 
-cycles_fit : (g : Signed) (cs : List Cycle) → bound_of cs ≤ 1000000000000 → length g.edges ≤ 400000
+cycles_fit : (g : Signed) (cs : List Cycle) → bound_of cs ≤ 1000000000000 → length g.edges ≤ MOST_EDGES
     → All (λ (c : Cycle). 1 ≤ c.half) cs → All (λ (c : Cycle). IsOddWalk g c.walk) cs
     → AllByRecursion IsCycle cs
 cycles_fit g [] b l h o = tt
@@ -181,7 +182,7 @@ weight_small colours edge = by_test (breaks colours edge) where
   by_test true = omega (arith, edge.most, most_most edge.kind)
   by_test false = omega arith
 
-cost_small : (g : Signed) (colours : List Bool) → length g.edges ≤ 400000 → cost_of g colours ≤ 400000000000
+cost_small : (g : Signed) (colours : List Bool) → length g.edges ≤ MOST_EDGES → cost_of g colours ≤ MOST_EDGES * 1000000
 cost_small g colours l = omega (arith, sum_by-le (broken_weight colours) 1000000 g.edges (λ k d m. weight_small colours (get_or g.edges k d)), l)
 
 more_fits : (c : Option ℕ) (k : Option (List ℕ)) (conflict corner : ℕ) → corner_weight c conflict ≡ corner
@@ -207,7 +208,7 @@ params_asked o = record { layer = refl; space = refl; overlap = refl; stitch = r
 pub params_fit : (o : PlainOptions) → AreOptions o → IsParams (params_of_options o)
 params_fit o n = asked_fit (params_of_options o) o (params_asked o) n (λ e. absurd (cc))
 
-counts_fit : (net : Net) → net.piece_count ≤ 1000000000000 → length net.graph.edges ≤ 400000 → IsCounts (counts_of_net net)
+counts_fit : (net : Net) → net.piece_count ≤ 1000000000000 → length net.graph.edges ≤ MOST_EDGES → IsCounts (counts_of_net net)
 counts_fit net p l = record {
   pieces = p;
   fragments = omega (arith, net.graph.few_nodes);
@@ -226,7 +227,7 @@ counts_fit net p l = record {
 -- a report that says the truth of a net within the limits is one that has a text
 pub true_is_valid : (o : PlainOptions) (f : Fragments) (net : Net) (r : PlainReport) → SaysTrue o f net r
     → AreOptions o → (r.head.params.corner ≡ None → r.head.params.keep ≡ None)
-    → net.piece_count ≤ 1000000000000 → length net.graph.edges ≤ 400000 → IsReport r
+    → net.piece_count ≤ 1000000000000 → length net.graph.edges ≤ MOST_EDGES → IsReport r
 true_is_valid o f net r t n h p l =
     let g = net.graph in
     let small = cost_small g r.head.colours l in

@@ -5,6 +5,7 @@ use Rattle.std.specs.List.{range_with_len}
 use Rattle.std.proofs.lemmas.Int.{ints}
 use Rattle.std.proofs.lemmas.List.{length-map, get_or_default}
 use Rattle.std.proofs.lemmas.List.FromFn.{length-range_with_len, get_or-range_with_len}
+use Rattle.dpl_limits.specs.declared.TheConstants.{MOST_FRAGMENTS, MOST_TILES}
 use Rattle.dpl_cell.specs.Places.{Corners, corners_of}
 use Rattle.dpl_cell.specs.Cells.{IsWithin}
 use Rattle.dpl_cell.specs.Tiles.{IsTile, AreTiles}
@@ -103,7 +104,7 @@ within_fragments space over cells kept f tiles keep n a few t u more =
 
 -- the tiles of fragments are no more than these
 pub tiles_within : (space over : ℕ) (cells kept : Cells) (f : Fragments) (a : AreFragmentsOf space over cells kept f)
-    → length f.rects ≤ 100000 → length a.tiles ≤ 100000
+    → length f.rects ≤ MOST_FRAGMENTS → length a.tiles ≤ MOST_TILES
 tiles_within space over cells kept f a few =
     let h = few_tiles a.keep space over cells a.tiles a.label f a.are_tiles a.are_fragments in
     omega arith

@@ -2,6 +2,7 @@
 use Rattle.std.proofs.Common.{arith, ◌≡◌, ◌⊎◌, inl, inr, ◌≤◌, ◌*◌, ℕ, List, [], ◌∷◌, ◌++◌, Result, Err, IfOk, IfErr, map, length, refl, sym, ap, ◌∙◌, subst}
 use Rattle.std.specs.Prelude.{Ok, Option, Some, option_to_list}
 use Rattle.std.proofs.lemmas.List.{length-map}
+use Rattle.dpl_limits.specs.declared.TheConstants.{MOST_EDGES, MOST_FRAGMENTS, MOST_TILES}
 use Rattle.dpl_limits.specs.Limits.{number_of, most_of}
 use Rattle.dpl_limits.specs.declared.counted.Counted.{Counted}
 use Rattle.dpl_limits.specs.declared.counted.Counted.TheVariants as Counted
@@ -79,9 +80,9 @@ drawing_once o text =
 
 pub cells_once : (o : PlainOptions) (cells kept : Cells) → AllOnce (cells_reasons o cells kept)
 cells_once o cells kept = (
-  passed_once Counted.Tiles (HasMoreTiles cells 100000),
+  passed_once Counted.Tiles (HasMoreTiles cells MOST_TILES),
   (
-    passed_once Counted.Tiles (HasMoreTiles kept 100000),
+    passed_once Counted.Tiles (HasMoreTiles kept MOST_TILES),
     (passed_once Counted.Fragments (HasTooManyFragments o cells kept), (passed_once Counted.Edges (HasTooManyEdges o cells kept), tt)),
   ),
 )
@@ -109,33 +110,33 @@ one_text_refusal o text = first_once (layer_reasons o text) (layer_once o text)
 -- cells with a layer within the limits pass none
 pub cells_free : (o : PlainOptions) (cells kept : Cells) (f : Fragments) (n : Net) → IsLayer o cells kept f n → NoneOf (cells_reasons o cells kept)
 cells_free o cells kept f n l =
-    let T : Reason = IsPassed Counted.Tiles (HasMoreTiles cells 100000) in
-    let K : Reason = IsPassed Counted.Tiles (HasMoreTiles kept 100000) in
+    let T : Reason = IsPassed Counted.Tiles (HasMoreTiles cells MOST_TILES) in
+    let K : Reason = IsPassed Counted.Tiles (HasMoreTiles kept MOST_TILES) in
     let F : Reason = IsPassed Counted.Fragments (HasTooManyFragments o cells kept) in
     let E : Reason = IsPassed Counted.Edges (HasTooManyEdges o cells kept) in
     none_cons T (K ∷ F ∷ E ∷ []) no_tiles (none_cons K (F ∷ E ∷ []) no_kept
     (none_cons F (E ∷ []) no_fragments (none_cons E [] no_edges no_first))) where
-      no_tiles : IsFree (IsPassed Counted.Tiles (HasMoreTiles cells 100000))
+      no_tiles : IsFree (IsPassed Counted.Tiles (HasMoreTiles cells MOST_TILES))
       no_tiles e r =
           let a = l.layer.fragments in
-          not_more cells a.tiles 100000 a.are_tiles (tiles_within (2 * o.space) (2 * o.overlap) cells kept f a l.few_fragments) r.0
+          not_more cells a.tiles MOST_TILES a.are_tiles (tiles_within (2 * o.space) (2 * o.overlap) cells kept f a l.few_fragments) r.0
 
-      no_kept : IsFree (IsPassed Counted.Tiles (HasMoreTiles kept 100000))
+      no_kept : IsFree (IsPassed Counted.Tiles (HasMoreTiles kept MOST_TILES))
       no_kept e r =
           let a = l.layer.fragments in
-          not_more kept a.keep 100000 a.are_kept l.few_kept r.0
+          not_more kept a.keep MOST_TILES a.are_kept l.few_kept r.0
 
       no_fragments : IsFree (IsPassed Counted.Fragments (HasTooManyFragments o cells kept))
       no_fragments e r =
           let m = r.0 in
-          within_fragments (2 * o.space) (2 * o.overlap) cells kept f m.tiles m.keep 100000 l.layer.fragments
+          within_fragments (2 * o.space) (2 * o.overlap) cells kept f m.tiles m.keep MOST_FRAGMENTS l.layer.fragments
           l.few_fragments m.are_tiles m.are_kept m.many
 
       no_edges : IsFree (IsPassed Counted.Edges (HasTooManyEdges o cells kept))
       no_edges e r =
           let m = r.0 in
           let same : m.fragments ≡ f = fragments_same_of (2 * o.space) (2 * o.overlap) cells kept m.fragments f m.are_fragments l.layer.fragments in
-          no_more_edges f o.weights (2 * o.space) n 400000 l.layer.net l.few_edges (subst (λ z. HasMoreEdges z (2 * o.space) 400000) same m.many)
+          no_more_edges f o.weights (2 * o.space) n MOST_EDGES l.layer.net l.few_edges (subst (λ z. HasMoreEdges z (2 * o.space) MOST_EDGES) same m.many)
 
 -- no refusal applies to a text with a layer within the limits
 pub none_comes : (o : PlainOptions) (text : List ℕ) (f : Fragments) (n : Net) → IsLayerOfText o text f n → NoneOf (layer_reasons o text)
@@ -220,12 +221,12 @@ drawing_kinds most room o text =
 
 pub cells_kinds : (rule : Type 0) (most : ℕ) → 7 ≤ most → (o : PlainOptions) (cells kept : Cells) → AllHave (HasKind rule most) (cells_reasons o cells kept)
 cells_kinds rule most room o cells kept = (
-  (λ e p. kind_of rule most e 5 100001 p.1 (omega arith) (omega (arith, room))),
+  (λ e p. kind_of rule most e 5 (MOST_TILES + 1) p.1 (omega arith) (omega (arith, room))),
   (
-    (λ e p. kind_of rule most e 5 100001 p.1 (omega arith) (omega (arith, room))),
+    (λ e p. kind_of rule most e 5 (MOST_TILES + 1) p.1 (omega arith) (omega (arith, room))),
     (
-      (λ e p. kind_of rule most e 6 100001 p.1 (omega arith) (omega (arith, room))),
-      ((λ e p. kind_of rule most e 7 400001 p.1 (omega arith) (omega (arith, room))), tt),
+      (λ e p. kind_of rule most e 6 (MOST_FRAGMENTS + 1) p.1 (omega arith) (omega (arith, room))),
+      ((λ e p. kind_of rule most e 7 (MOST_EDGES + 1) p.1 (omega arith) (omega (arith, room))), tt),
     ),
   ),
 )
@@ -280,49 +281,49 @@ refusal_comes L R (Err f) one free a (inr q) e r = inl (ap Err (one f e q r))
 
 -- no tile of the cells, and none of those that are kept whole, is one too many
 few_tiles : (o : PlainOptions) (cells kept : Cells) (ts ks : List Corners) (e : LayerError)
-    → AreTiles cells ts → AreTiles kept ks → length ts ≤ 100000 → length ks ≤ 100000
+    → AreTiles cells ts → AreTiles kept ks → length ts ≤ MOST_TILES → length ks ≤ MOST_TILES
     → FirstOf (IsPassed Counted.Fragments (HasTooManyFragments o cells kept) ∷ IsPassed Counted.Edges (HasTooManyEdges o cells kept) ∷ []) e
     → FirstOf (cells_reasons o cells kept) e
 few_tiles o cells kept ts ks e t u few also r =
-    let T : Reason = IsPassed Counted.Tiles (HasMoreTiles cells 100000) in
-    let K : Reason = IsPassed Counted.Tiles (HasMoreTiles kept 100000) in
+    let T : Reason = IsPassed Counted.Tiles (HasMoreTiles cells MOST_TILES) in
+    let K : Reason = IsPassed Counted.Tiles (HasMoreTiles kept MOST_TILES) in
     let F : Reason = IsPassed Counted.Fragments (HasTooManyFragments o cells kept) in
     let E : Reason = IsPassed Counted.Edges (HasTooManyEdges o cells kept) in
-    later T (K ∷ F ∷ E ∷ []) e (λ x p. not_more cells ts 100000 t few p.0)
-    (later K (F ∷ E ∷ []) e (λ x p. not_more kept ks 100000 u also p.0) r)
+    later T (K ∷ F ∷ E ∷ []) e (λ x p. not_more cells ts MOST_TILES t few p.0)
+    (later K (F ∷ E ∷ []) e (λ x p. not_more kept ks MOST_TILES u also p.0) r)
 
 -- an error of the tiles passes the limit on tiles, but for want of memory
 pub tiles_refuse : (o : PlainOptions) (cells kept : Cells) (e : LimitError)
-    → (e ≡ step.TooMany → HasMoreTiles cells 100000)
+    → (e ≡ step.TooMany → HasMoreTiles cells MOST_TILES)
     → (of_step Counted.Tiles e ≡ NoMemory) ⊎ FirstOf (cells_reasons o cells kept) (of_step Counted.Tiles e)
-tiles_refuse o cells kept step.TooMany many = inr (first (IsPassed Counted.Tiles (HasMoreTiles cells 100000))
-    (IsPassed Counted.Tiles (HasMoreTiles kept 100000) ∷ IsPassed Counted.Fragments (HasTooManyFragments o cells kept)
+tiles_refuse o cells kept step.TooMany many = inr (first (IsPassed Counted.Tiles (HasMoreTiles cells MOST_TILES))
+    (IsPassed Counted.Tiles (HasMoreTiles kept MOST_TILES) ∷ IsPassed Counted.Fragments (HasTooManyFragments o cells kept)
     ∷ IsPassed Counted.Edges (HasTooManyEdges o cells kept) ∷ []) (passed Counted.Tiles) (many refl, refl))
 tiles_refuse o cells kept step.NoMemory many = inl refl
 
 -- an error of the tiles that are kept whole passes the limit on tiles, but for want of memory
 pub kept_refuses : (o : PlainOptions) (cells kept : Cells) (v : List Rect) (e : LimitError)
-    → AreTiles cells (map corners_of v) → length v ≤ 100000 → (e ≡ step.TooMany → HasMoreTiles kept 100000)
+    → AreTiles cells (map corners_of v) → length v ≤ MOST_TILES → (e ≡ step.TooMany → HasMoreTiles kept MOST_TILES)
     → (of_step Counted.Tiles e ≡ NoMemory) ⊎ FirstOf (cells_reasons o cells kept) (of_step Counted.Tiles e)
 kept_refuses o cells kept v step.TooMany t few many =
-    let T : Reason = IsPassed Counted.Tiles (HasMoreTiles cells 100000) in
-    let K : Reason = IsPassed Counted.Tiles (HasMoreTiles kept 100000) in
+    let T : Reason = IsPassed Counted.Tiles (HasMoreTiles cells MOST_TILES) in
+    let K : Reason = IsPassed Counted.Tiles (HasMoreTiles kept MOST_TILES) in
     let F : Reason = IsPassed Counted.Fragments (HasTooManyFragments o cells kept) in
     let E : Reason = IsPassed Counted.Edges (HasTooManyEdges o cells kept) in
-    let small : length (map corners_of v) ≤ 100000 = rw (length-map v corners_of) few in
-    inr (later T (K ∷ F ∷ E ∷ []) (passed Counted.Tiles) (λ x p. not_more cells (map corners_of v) 100000 t small p.0)
+    let small : length (map corners_of v) ≤ MOST_TILES = rw (length-map v corners_of) few in
+    inr (later T (K ∷ F ∷ E ∷ []) (passed Counted.Tiles) (λ x p. not_more cells (map corners_of v) MOST_TILES t small p.0)
     (first K (F ∷ E ∷ []) (passed Counted.Tiles) (many refl, refl)))
 kept_refuses o cells kept v step.NoMemory t few many = inl refl
 
 -- an error of the cuts passes the limit on fragments, but for want of memory
 pub cuts_refuse : (o : PlainOptions) (cells kept : Cells) (v w : List Rect) (e : LimitError)
-    → AreTiles cells (map corners_of v) → AreTiles kept (map corners_of w) → length v ≤ 100000
-    → length w ≤ 100000
-    → (e ≡ step.TooMany → HasMoreFragments (map corners_of w) (2 * o.space) (2 * o.overlap) (map corners_of v) 100000)
+    → AreTiles cells (map corners_of v) → AreTiles kept (map corners_of w) → length v ≤ MOST_TILES
+    → length w ≤ MOST_TILES
+    → (e ≡ step.TooMany → HasMoreFragments (map corners_of w) (2 * o.space) (2 * o.overlap) (map corners_of v) MOST_FRAGMENTS)
     → (of_step Counted.Fragments e ≡ NoMemory) ⊎ FirstOf (cells_reasons o cells kept) (of_step Counted.Fragments e)
 cuts_refuse o cells kept v w step.TooMany t u few also many =
-    let small : length (map corners_of v) ≤ 100000 = rw (length-map v corners_of) few in
-    let least : length (map corners_of w) ≤ 100000 = rw (length-map w corners_of) also in
+    let small : length (map corners_of v) ≤ MOST_TILES = rw (length-map v corners_of) few in
+    let least : length (map corners_of w) ≤ MOST_TILES = rw (length-map w corners_of) also in
     inr (few_tiles o cells kept (map corners_of v) (map corners_of w) (passed Counted.Fragments) t u small least
     (first (IsPassed Counted.Fragments (HasTooManyFragments o cells kept)) (IsPassed Counted.Edges (HasTooManyEdges o cells kept) ∷ [])
     (passed Counted.Fragments) (
@@ -340,8 +341,8 @@ cuts_refuse o cells kept v w step.NoMemory t u few also many = inl refl
 -- an error of the net passes the limit on edges, but for want of memory
 pub net_refuses : (o : PlainOptions) (cells kept : Cells) (f : Fragments) (e : LimitError)
     (a : AreFragmentsOf (2 * o.space) (2 * o.overlap) cells kept f)
-    → length a.keep ≤ 100000 → length f.rects ≤ 100000
-    → (e ≡ step.TooMany → HasMoreEdges f (2 * o.space) 400000)
+    → length a.keep ≤ MOST_TILES → length f.rects ≤ MOST_FRAGMENTS
+    → (e ≡ step.TooMany → HasMoreEdges f (2 * o.space) MOST_EDGES)
     → (of_step Counted.Edges e ≡ NoMemory) ⊎ FirstOf (cells_reasons o cells kept) (of_step Counted.Edges e)
 net_refuses o cells kept f step.TooMany a few_kept few many =
     let F : Reason = IsPassed Counted.Fragments (HasTooManyFragments o cells kept) in
@@ -349,6 +350,6 @@ net_refuses o cells kept f step.TooMany a few_kept few many =
     inr (few_tiles o cells kept a.tiles a.keep (passed Counted.Edges) a.are_tiles a.are_kept
     (tiles_within (2 * o.space) (2 * o.overlap) cells kept f a few) few_kept
     (later F (E ∷ []) (passed Counted.Edges)
-    (λ x p. within_fragments (2 * o.space) (2 * o.overlap) cells kept f p.0.tiles p.0.keep 100000 a few p.0.are_tiles p.0.are_kept p.0.many)
+    (λ x p. within_fragments (2 * o.space) (2 * o.overlap) cells kept f p.0.tiles p.0.keep MOST_FRAGMENTS a few p.0.are_tiles p.0.are_kept p.0.many)
     (first E [] (passed Counted.Edges) (record { fragments = f; are_fragments = a; many = many refl }, refl))))
 net_refuses o cells kept f step.NoMemory a few_kept few many = inl refl

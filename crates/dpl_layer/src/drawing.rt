@@ -29,7 +29,7 @@ pub struct Drawing {
 /// What a text that is cut into these commands draws on the two layers of the options. A fault of either layer
 /// comes before the limits, and what the chosen layer has before what the keep layer has.
 ///
-/// The text has at most 16 MiB.
+/// The text has at most `MOST_LAYOUT_BYTES` bytes.
 pub fn read_drawing(
     alloc: Global,
     text: &[u8],

@@ -16,7 +16,7 @@ use std::alloc::Global;
 
 /// The fragments and the net of a layer of a text. Nothing is cut in a cell of the keep layer, if there is one.
 ///
-/// The text has at most 16 MiB.
+/// The text has at most `MOST_LAYOUT_BYTES` bytes.
 pub fn read_layer(alloc: Global, text: &[u8], options: &Options) -> Result<Layer, LayerError>
     requires { length text.now ≤ MOST_LAYOUT_BYTES }
     ensures layer { IfOk result (λ l. IsLayerOfText options.now text.now l.fragments l.net) }

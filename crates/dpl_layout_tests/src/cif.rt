@@ -2,6 +2,7 @@ use crate::figures::Corners;
 use dpl_cell::{Layout, Prim};
 use dpl_cif::{CifError, CifLimit, What, read};
 use dpl_lex::Name;
+use dpl_limits::MOST_LAYOUT_BYTES;
 use std::alloc::{AllocError, Global};
 use std::process::Abort;
 use std::test::Fail;
@@ -9,7 +10,7 @@ use std::test::Fail;
 /// The layer M of a text, and why there is none, `None` where the text is too long.
 fn answer(alloc: Global, text: &str) -> Option<Result<Layout, CifError>> {
     let layer = Name::new(b"M")?;
-    if text.as_bytes().len() > 16_777_216 {
+    if text.as_bytes().len() as u64 > MOST_LAYOUT_BYTES {
         return None;
     }
     Some(read(alloc, text.as_bytes(), &layer))
@@ -211,10 +212,10 @@ fn still_polygon(alloc: Global, points: u32) -> Result<String, AllocError> {
 
 #[test]
 fn a_polygon_counts_as_many_as_it_has_points(rt: HostRuntime) -> Result<(), Fail> {
-    let most = still_polygon(rt.alloc(), 50_000)?;
+    let most = still_polygon(rt.alloc(), 1_000_000)?;
     assert_eq!(rt; count(rt.alloc(), most.as_str())?, 1);
-    let longer = still_polygon(rt.alloc(), 50_001)?;
-    let limit = exceeds(CifLimit::Primitives, 50001);
+    let longer = still_polygon(rt.alloc(), 1_000_001)?;
+    let limit = exceeds(CifLimit::Primitives, 1_000_001);
     assert_eq!(rt; refusal(rt.alloc(), longer.as_str()), limit);
     Ok(())
 }

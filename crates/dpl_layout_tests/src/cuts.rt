@@ -200,7 +200,7 @@ fn corners_at_the_spacing(rt: HostRuntime) -> Result<(), Fail> {
 fn push_teeth(tiles: &mut Vec<Corners>) -> Result<(), AllocError> {
     for j in 0..99u8 {
         let y = i64::from(j) * 2;
-        tiles.push((0, y, 600_000, y + 1))?;
+        tiles.push((0, y, 12_000_000, y + 1))?;
         tiles.push((0, y + 1, 2, y + 2))?;
     }
     Ok(())
@@ -215,20 +215,20 @@ fn push_row(tiles: &mut Vec<Corners>, count: u16, first: i64, y: i64) -> Result<
     Ok(())
 }
 
-/// A comb of 99 teeth below 998 boxes, each of which cuts each tooth, and boxes far away: 99,998 fragments and one
+/// A comb of 99 teeth below 19,998 boxes, each of which cuts each tooth, and boxes far away: 1,999,998 fragments and one
 /// for each box far away.
 fn comb(alloc: Global, far: u16) -> Result<Vec<Corners>, AllocError> {
     let mut tiles = Vec::new(alloc);
     push_teeth(&mut tiles)?;
-    push_row(&mut tiles, 998, 400, 199)?;
-    push_row(&mut tiles, far, 700_000, 0)?;
+    push_row(&mut tiles, 19_998, 400, 199)?;
+    push_row(&mut tiles, far, 12_100_000, 0)?;
     Ok(tiles)
 }
 
 #[test]
 fn the_most_fragments(rt: HostRuntime) -> Result<(), Fail> {
     let tiles = comb(rt.alloc(), 2)?;
-    assert_eq!(rt; counts(rt.alloc(), tiles.as_slice())?, (100_000, 98_802));
+    assert_eq!(rt; counts(rt.alloc(), tiles.as_slice())?, (2_000_000, 1_979_802));
     Ok(())
 }
 

@@ -93,40 +93,38 @@ fn too_far(rt: HostRuntime) {
     assert_eq!(rt; found, exceeds(4, 1_073_741_826));
 }
 
-/// 512 upright bars and 512 level ones make 263,168 tiles.
+/// 2,048 upright bars and 2,048 level ones make more than four million tiles.
 const MANY_TILES: &[u8] =
-    b"DS 1; L M; B 10 20480 5 10240; DF; DS 2; C 1; C 1 T 40 0; DF; DS 3; C 2; C 2 T 80 0; DF; DS \
-      4; C 3; C 3 T 160 0; DF; DS 5; C 4; C 4 T 320 0; DF; DS 6; C 5; C 5 T 640 0; DF; DS 7; C 6; \
-      C 6 T 1280 0; DF; DS 8; C 7; C 7 T 2560 0; DF; DS 9; C 8; C 8 T 5120 0; DF; DS 10; C 9; C 9 \
-      T 10240 0; DF; DS 11; L M; B 20480 10 10240 25; DF; DS 12; C 11; C 11 T 0 40; DF; DS 13; C \
-      12; C 12 T 0 80; DF; DS 14; C 13; C 13 T 0 160; DF; DS 15; C 14; C 14 T 0 320; DF; DS 16; C \
-      15; C 15 T 0 640; DF; DS 17; C 16; C 16 T 0 1280; DF; DS 18; C 17; C 17 T 0 2560; DF; DS 19; \
-      C 18; C 18 T 0 5120; DF; DS 20; C 19; C 19 T 0 10240; DF; C 10; C 20; E";
+    b"DS 1; L M; B 10 81920 5 40960; DF; DS 2; C 1; C 1 T 40 0; DF; DS 3; C 2; C 2 T 80 0; DF; DS 4; C 3; C 3 T \
+      160 0; DF; DS 5; C 4; C 4 T 320 0; DF; DS 6; C 5; C 5 T 640 0; DF; DS 7; C 6; C 6 T 1280 0; DF; DS 8; C 7; C \
+      7 T 2560 0; DF; DS 9; C 8; C 8 T 5120 0; DF; DS 10; C 9; C 9 T 10240 0; DF; DS 11; C 10; C 10 T 20480 0; DF; \
+      DS 12; C 11; C 11 T 40960 0; DF; DS 13; L M; B 81920 10 40960 25; DF; DS 14; C 13; C 13 T 0 40; DF; DS 15; C \
+      14; C 14 T 0 80; DF; DS 16; C 15; C 15 T 0 160; DF; DS 17; C 16; C 16 T 0 320; DF; DS 18; C 17; C 17 T 0 \
+      640; DF; DS 19; C 18; C 18 T 0 1280; DF; DS 20; C 19; C 19 T 0 2560; DF; DS 21; C 20; C 20 T 0 5120; DF; DS \
+      22; C 21; C 21 T 0 10240; DF; DS 23; C 22; C 22 T 0 20480; DF; DS 24; C 23; C 23 T 0 40960; DF; C 12; C 24; \
+      E";
 
 #[test]
 fn too_many_tiles(rt: HostRuntime) {
     let found = refusal(rt.alloc(), MANY_TILES, NONE);
-    assert_eq!(rt; found, exceeds(5, 100_001));
+    assert_eq!(rt; found, exceeds(5, 2_000_001));
 }
 
-/// 141 wires with 250 boxes between each two make 105,000 fragments.
+/// A comb of 99 teeth below 20,000 boxes, each of which cuts each tooth, makes 2,000,198 fragments.
 const MANY_FRAGMENTS: &[u8] =
-    b"DS 1; L M; B 149710 10 74855 5; DF; DS 2; C 1; C 1 T 0 120; DF; DS 3; C 2; C 2 T 0 240; DF; \
-      DS 4; C 3; C 3 T 0 480; DF; DS 5; C 4; C 4 T 0 960; DF; DS 6; C 5; C 5 T 0 1920; DF; DS 7; C \
-      6; C 6 T 0 3840; DF; DS 8; C 7; C 7 T 0 7680; DF; DS 9; C 8; C 8 T 0 15360; DF; DS 11; L M; \
-      B 10 10 5 65; DF; DS 12; C 11; C 11 T 600 0; DF; DS 13; C 12; C 12 T 1200 0; DF; DS 14; C \
-      13; C 13 T 2400 0; DF; DS 15; C 14; C 14 T 4800 0; DF; DS 16; C 15; C 15 T 9600 0; DF; DS \
-      17; C 16; C 16 T 19200 0; DF; DS 18; C 17; C 17 T 38400 0; DF; DS 19; C 18; C 18 T 76800 0; \
-      DF; DS 20; C 18; C 17 T 76800 0; C 16 T 115200 0; C 15 T 134400 0; C 14 T 144000 0; C 12 T \
-      148800 0; DF; DS 21; C 20; C 20 T 300 120; DF; DS 22; C 21; C 21 T 0 240; DF; DS 23; C 22; C \
-      22 T 0 480; DF; DS 24; C 23; C 23 T 0 960; DF; DS 25; C 24; C 24 T 0 1920; DF; DS 26; C 25; \
-      C 25 T 0 3840; DF; DS 27; C 26; C 26 T 0 7680; DF; C 8; C 4 T 0 15360; C 3 T 0 16320; C 1 T \
-      0 16800; C 27; C 23 T 0 15360; C 22 T 0 16320; E";
+    b"DS 1 1 4; L M; B 24002800 2 12001400 1; B 4 2 2 3; DF; DS 2; C 1; C 1 T 0 1; DF; DS 3; C 2; C 2 T 0 2; DF; \
+      DS 4; C 3; C 3 T 0 4; DF; DS 5; C 4; C 4 T 0 8; DF; DS 6; C 5; C 5 T 0 16; DF; DS 7; C 6; C 6 T 0 32; DF; DS \
+      8 1 4; L M; B 2 2 801 399; DF; DS 9; C 8; C 8 T 300 0; DF; DS 10; C 9; C 9 T 600 0; DF; DS 11; C 10; C 10 T \
+      1200 0; DF; DS 12; C 11; C 11 T 2400 0; DF; DS 13; C 12; C 12 T 4800 0; DF; DS 14; C 13; C 13 T 9600 0; DF; \
+      DS 15; C 14; C 14 T 19200 0; DF; DS 16; C 15; C 15 T 38400 0; DF; DS 17; C 16; C 16 T 76800 0; DF; DS 18; C \
+      17; C 17 T 153600 0; DF; DS 19; C 18; C 18 T 307200 0; DF; DS 20; C 19; C 19 T 614400 0; DF; DS 21; C 20; C \
+      20 T 1228800 0; DF; DS 22; C 21; C 21 T 2457600 0; DF; C 7; C 6 T 0 64; C 2 T 0 96; C 1 T 0 98; C 22; C 19 T \
+      4915200 0; C 18 T 5529600 0; C 17 T 5836800 0; C 13 T 5990400 0; E";
 
 #[test]
 fn too_many_fragments(rt: HostRuntime) {
     let found = refusal(rt.alloc(), MANY_FRAGMENTS, NONE);
-    assert_eq!(rt; found, exceeds(6, 100_001));
+    assert_eq!(rt; found, exceeds(6, 2_000_001));
 }
 
 /// 1,024 boxes that are all close to one another make 523,776 clashes.
@@ -139,7 +137,7 @@ const MANY_EDGES: &[u8] =
 #[test]
 fn too_many_edges(rt: HostRuntime) {
     let found = refusal(rt.alloc(), MANY_EDGES, NONE);
-    assert_eq!(rt; found, exceeds(7, 400_001));
+    assert_eq!(rt; found, exceeds(7, 500_001));
 }
 
 /// The same wire, which the keep layer covers.
@@ -270,13 +268,14 @@ fn kept_cells_at_the_end_of_a_stretch(rt: HostRuntime) {
 
 /// 512 upright bars and 512 level ones on the keep layer make 263,168 tiles.
 const KEPT_BARS: &[u8] =
-    b"DS 101; L K; B 10 20480 5 10240; DF; DS 102; C 101; C 101 T 40 0; DF; DS 103; C 102; C 102 T 80 0; DF; \
-      DS 104; C 103; C 103 T 160 0; DF; DS 105; C 104; C 104 T 320 0; DF; DS 106; C 105; C 105 T 640 0; DF; DS \
-      107; C 106; C 106 T 1280 0; DF; DS 108; C 107; C 107 T 2560 0; DF; DS 109; C 108; C 108 T 5120 0; DF; DS \
-      110; C 109; C 109 T 10240 0; DF; DS 111; L K; B 20480 10 10240 25; DF; DS 112; C 111; C 111 T 0 40; DF; \
-      DS 113; C 112; C 112 T 0 80; DF; DS 114; C 113; C 113 T 0 160; DF; DS 115; C 114; C 114 T 0 320; DF; DS \
-      116; C 115; C 115 T 0 640; DF; DS 117; C 116; C 116 T 0 1280; DF; DS 118; C 117; C 117 T 0 2560; DF; DS \
-      119; C 118; C 118 T 0 5120; DF; DS 120; C 119; C 119 T 0 10240; DF; C 110; C 120; ";
+    b"DS 101; L K; B 10 81920 5 40960; DF; DS 102; C 101; C 101 T 40 0; DF; DS 103; C 102; C 102 T 80 0; DF; DS \
+      104; C 103; C 103 T 160 0; DF; DS 105; C 104; C 104 T 320 0; DF; DS 106; C 105; C 105 T 640 0; DF; DS 107; C \
+      106; C 106 T 1280 0; DF; DS 108; C 107; C 107 T 2560 0; DF; DS 109; C 108; C 108 T 5120 0; DF; DS 110; C \
+      109; C 109 T 10240 0; DF; DS 111; C 110; C 110 T 20480 0; DF; DS 112; C 111; C 111 T 40960 0; DF; DS 113; L \
+      K; B 81920 10 40960 25; DF; DS 114; C 113; C 113 T 0 40; DF; DS 115; C 114; C 114 T 0 80; DF; DS 116; C 115; \
+      C 115 T 0 160; DF; DS 117; C 116; C 116 T 0 320; DF; DS 118; C 117; C 117 T 0 640; DF; DS 119; C 118; C 118 \
+      T 0 1280; DF; DS 120; C 119; C 119 T 0 2560; DF; DS 121; C 120; C 120 T 0 5120; DF; DS 122; C 121; C 121 T 0 \
+      10240; DF; DS 123; C 122; C 122 T 0 20480; DF; DS 124; C 123; C 123 T 0 40960; DF; C 112; C 124; ";
 
 /// Why there is no layer M beside the layer K of these two texts.
 fn refusal_of_both(alloc: Global, first: &[u8], second: &[u8]) -> Option<LayerError> {
@@ -294,7 +293,7 @@ fn joined(alloc: Global, first: &[u8], second: &[u8]) -> Result<Vec<u8>, AllocEr
 /// own tiles do.
 #[test]
 fn too_many_kept_tiles(rt: HostRuntime) {
-    let wanted = exceeds(5, 100_001);
+    let wanted = exceeds(5, 2_000_001);
     let few = b"L M; B 10 10 5 5; E";
     assert_eq!(rt; refusal_of_both(rt.alloc(), KEPT_BARS, few), wanted);
     assert_eq!(rt;
@@ -303,13 +302,15 @@ fn too_many_kept_tiles(rt: HostRuntime) {
     );
 }
 
-/// 65,536 boxes on the keep layer.
+/// 1,048,576 boxes on the keep layer.
 const MANY_KEPT: &[u8] =
-    b"DS 1; L K; B 2 2 1 1; DF; DS 2; C 1; C 1 T 4 0; DF; DS 3; C 2; C 2 T 8 0; DF; DS 4; C 3; C 3 T 16 0; DF; \
-      DS 5; C 4; C 4 T 32 0; DF; DS 6; C 5; C 5 T 64 0; DF; DS 7; C 6; C 6 T 128 0; DF; DS 8; C 7; C 7 T 256 \
-      0; DF; DS 9; C 8; C 8 T 512 0; DF; DS 10; C 9; C 9 T 1024 0; DF; DS 11; C 10; C 10 T 2048 0; DF; DS 12; \
-      C 11; C 11 T 4096 0; DF; DS 13; C 12; C 12 T 8192 0; DF; DS 14; C 13; C 13 T 16384 0; DF; DS 15; C 14; C \
-      14 T 32768 0; DF; DS 16; C 15; C 15 T 65536 0; DF; DS 17; C 16; C 16 T 131072 0; DF; C 17; ";
+    b"DS 1; L K; B 2 2 1 1; B 2 2 1 1; B 2 2 1 1; B 2 2 1 1; B 2 2 1 1; B 2 2 1 1; B 2 2 1 1; B 2 2 1 1; B 2 2 1 \
+      1; B 2 2 1 1; B 2 2 1 1; B 2 2 1 1; B 2 2 1 1; B 2 2 1 1; B 2 2 1 1; B 2 2 1 1; DF; DS 2; C 1; C 1 T 4 0; \
+      DF; DS 3; C 2; C 2 T 8 0; DF; DS 4; C 3; C 3 T 16 0; DF; DS 5; C 4; C 4 T 32 0; DF; DS 6; C 5; C 5 T 64 0; \
+      DF; DS 7; C 6; C 6 T 128 0; DF; DS 8; C 7; C 7 T 256 0; DF; DS 9; C 8; C 8 T 512 0; DF; DS 10; C 9; C 9 T \
+      1024 0; DF; DS 11; C 10; C 10 T 2048 0; DF; DS 12; C 11; C 11 T 4096 0; DF; DS 13; C 12; C 12 T 8192 0; DF; \
+      DS 14; C 13; C 13 T 16384 0; DF; DS 15; C 14; C 14 T 32768 0; DF; DS 16; C 15; C 15 T 65536 0; DF; DS 17; C \
+      16; C 16 T 131072 0; DF; C 17; ";
 
 /// Whether these two texts have a layer M where there is no keep layer.
 fn have_layer(alloc: Global, first: &[u8], second: &[u8]) -> Option<bool> {
@@ -325,7 +326,7 @@ fn too_many_kept_primitives(rt: HostRuntime) {
     let missing = b"L M; B 2 2 0 0; C 99; E";
     assert_eq!(rt;
         refusal_of_both(rt.alloc(), MANY_KEPT, few),
-        exceeds(2, 65_536)
+        exceeds(2, 1_048_576)
     );
     assert_eq!(rt;
         refusal_of_both(rt.alloc(), MANY_KEPT, far),

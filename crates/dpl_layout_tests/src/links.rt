@@ -401,12 +401,12 @@ fn side_ports_rise_counterclockwise(rt: HostRuntime) -> Result<(), Fail> {
     compare_sides(&rt, rt.alloc(), &tiles, &wanted)
 }
 
-/// The first of 900 small boxes, row by row, that are all close to one another.
+/// The first of 1,020 small boxes, row by row, that are all close to one another.
 fn crowd(alloc: Global, count: u16) -> Result<Vec<Corners>, AllocError> {
     let mut tiles = Vec::new(alloc);
     for k in 0..count {
-        let x = i64::from(k % 30) * 4;
-        let y = i64::from(k / 30) * 4;
+        let x = i64::from(k % 34) * 4;
+        let y = i64::from(k / 34) * 4;
         tiles.push((x, y, x + 2, y + 2))?;
     }
     Ok(tiles)
@@ -414,8 +414,8 @@ fn crowd(alloc: Global, count: u16) -> Result<Vec<Corners>, AllocError> {
 
 #[test]
 fn nearly_too_many_edges(rt: HostRuntime) -> Result<(), Fail> {
-    let tiles = crowd(rt.alloc(), 894)?;
-    assert_eq!(rt; counts(rt.alloc(), tiles.as_slice())?, (399_171, 894));
+    let tiles = crowd(rt.alloc(), 1000)?;
+    assert_eq!(rt; counts(rt.alloc(), tiles.as_slice())?, (499_500, 1000));
     Ok(())
 }
 
@@ -425,7 +425,7 @@ fn refusal(alloc: Global, tiles: &[Corners]) -> Result<Option<LimitError>, Fail>
 
 #[test]
 fn too_many_edges(rt: HostRuntime) -> Result<(), Fail> {
-    let tiles = crowd(rt.alloc(), 895)?;
+    let tiles = crowd(rt.alloc(), 1001)?;
     assert_eq!(rt;
         refusal(rt.alloc(), tiles.as_slice())?,
         Some(LimitError::TooMany)

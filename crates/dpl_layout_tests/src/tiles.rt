@@ -138,12 +138,12 @@ fn counted(alloc: Global, prims: Vec<Prim>) -> Result<usize, LimitError> {
     Ok(found.len())
 }
 
-/// 512 upright bars and as many level ones.
+/// 1,536 upright bars and as many level ones.
 fn bars(alloc: Global) -> Result<Vec<Prim>, Fail> {
     let mut prims = Vec::new(alloc);
-    for i in 0..512u16 {
+    for i in 0..1536u16 {
         let at = i64::from(i) * 4;
-        let pair = [(at, -2, at + 2, 2048), (-2, at, 2048, at + 2)];
+        let pair = [(at, -2, at + 2, 6144), (-2, at, 6144, at + 2)];
         push_boxes(&mut prims, &pair)?;
     }
     Ok(prims)
@@ -157,22 +157,22 @@ fn a_grid_with_too_many_tiles(rt: HostRuntime) -> Result<(), Fail> {
 }
 
 fn push_upright(prims: &mut Vec<Prim>) -> Result<(), Fail> {
-    for i in 0..10u16 {
+    for i in 0..2u8 {
         let at = i64::from(i) * 40;
-        push_boxes(prims, &[(at, 0, at + 10, 363_600)])?;
+        push_boxes(prims, &[(at, 0, at + 10, 26_666_640)])?;
     }
     Ok(())
 }
 
 fn push_level(prims: &mut Vec<Prim>) -> Result<(), Fail> {
-    for j in 0..9_090u16 {
+    for j in 0..666_666u32 {
         let at = i64::from(j) * 40 + 20;
         push_boxes(prims, &[(0, at, 400, at + 10)])?;
     }
     Ok(())
 }
 
-/// Ten upright bars with 9,090 level ones across them, and boxes beside them that touch nothing.
+/// Two upright bars with 666,666 level ones across them, and boxes beside them that touch nothing.
 fn grid(alloc: Global, beside: &[Corners]) -> Result<Vec<Prim>, Fail> {
     let mut prims = Vec::new(alloc);
     push_boxes(&mut prims, beside)?;
@@ -184,7 +184,7 @@ fn grid(alloc: Global, beside: &[Corners]) -> Result<Vec<Prim>, Fail> {
 #[test]
 fn a_grid_with_the_most_tiles(rt: HostRuntime) -> Result<(), Fail> {
     let found = counted(rt.alloc(), grid(rt.alloc(), &[])?);
-    assert_eq!(rt; found, Ok(100_000));
+    assert_eq!(rt; found, Ok(2_000_000));
     Ok(())
 }
 

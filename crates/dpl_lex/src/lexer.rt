@@ -91,7 +91,7 @@ fn commands_at(spans: Vec<Span>, place: Place) -> Commands
 
 /// The finished commands before the end, in order, and how the text ends.
 ///
-/// The text has at most 16 MiB. The time grows with its length, and there are at most as many
+/// The text has at most `MOST_LAYOUT_BYTES` bytes. The time grows with its length, and there are at most as many
 /// spans as bytes.
 pub fn commands(alloc: Global, text: &[u8]) -> Result<Commands, AllocError>
     requires { length text.now ≤ MOST_LAYOUT_BYTES }

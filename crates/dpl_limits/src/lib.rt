@@ -9,10 +9,10 @@ pub use counted::Counted;
 pub use error::LimitError;
 
 /// The most bytes of a layout.
-pub const MOST_LAYOUT_BYTES: u64 = 16_777_216;
+pub const MOST_LAYOUT_BYTES: u64 = 67_108_864;
 
 /// The most primitives of the layer.
-pub const MOST_PRIMITIVES: u64 = 50_000;
+pub const MOST_PRIMITIVES: u64 = 1_000_000;
 
 /// The most calls that are written out.
 pub const MOST_CALLS: u64 = 1_000_000;
@@ -24,19 +24,19 @@ pub const MOST_COORDINATE: i64 = 1 << 30;
 pub const FARTHEST: u128 = 1_073_741_824;
 
 /// The most tiles of the layer.
-pub const MOST_TILES: usize = 100_000;
+pub const MOST_TILES: usize = 2_000_000;
 
 /// The most fragments of the layer.
-pub const MOST_FRAGMENTS: usize = 100_000;
+pub const MOST_FRAGMENTS: usize = 2_000_000;
 
 /// The most edges of the net: bonds, stitches and clashes.
-pub const MOST_EDGES: usize = 400_000;
+pub const MOST_EDGES: usize = 500_000;
 
 /// The most bytes of a report.
-pub const MOST_REPORT_BYTES: u64 = 268_435_456;
+pub const MOST_REPORT_BYTES: u64 = 2_147_483_648;
 
 /// The most bytes of a script of edits.
-pub const MOST_SCRIPT_BYTES: u64 = 65_536;
+pub const MOST_SCRIPT_BYTES: u64 = 1_048_576;
 
 /// The greatest spacing and the greatest overlap, in hundredths of a micron.
 pub const MOST_SPACE: u64 = 100_000;

@@ -10,7 +10,7 @@ use std::test::Fail;
 /// The optimum of a drawing.
 fn optimum(alloc: Global, nodes: u32, links: &[Link]) -> Result<Solution, Fail> {
     let net = net(alloc, nodes, links)?;
-    if net.graph.edges.as_slice().len() > 400_000 {
+    if net.graph.edges.as_slice().len() > 500_000 {
         return Err("too many edges")?;
     }
     match solve(alloc, &net) {

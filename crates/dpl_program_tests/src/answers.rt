@@ -119,21 +119,21 @@ fn blanks(alloc: Global, count: u64) -> Result<Vec<u8>, Fail> {
     Ok(bytes)
 }
 
-/// A layout has at most 16,777,216 bytes. One that has more is told so before a script that is too long, and before a
+/// A layout has at most 67,108,864 bytes. One that has more is told so before a script that is too long, and before a
 /// report that is not there.
 #[test]
 fn a_long_layout(rt: HostRuntime) -> Result<(), Fail> {
     let alloc = rt.alloc();
-    let layout = blanks(alloc, 16_777_217)?;
-    let script = blanks(alloc, 65_537)?;
+    let layout = blanks(alloc, 67_108_865)?;
+    let script = blanks(alloc, 1_048_577)?;
     let (long, both) = (layout.as_slice(), script.as_slice());
-    let told = "dpl: limit 1 count 16777217\n";
+    let told = "dpl: limit 1 count 67108865\n";
     compare(&rt, alloc, EDIT, (long, both), 4, told)?;
     let other = "check --layer M --space 100 --overlap 20 --report s";
     compare(&rt, alloc, other, (long, b""), 4, told)?;
-    let told = "dpl: limit 10 count 65537\n";
+    let told = "dpl: limit 10 count 1048577\n";
     compare(&rt, alloc, EDIT, (b"L M", both), 4, told)?;
-    let layout = blanks(alloc, 16_777_216)?;
+    let layout = blanks(alloc, 67_108_864)?;
     let told = "dpl: layout 14 at command 1\n";
     compare(&rt, alloc, SPLIT, (layout.as_slice(), b""), 3, told)
 }

@@ -42,7 +42,7 @@ fn a_script_is_named(rt: HostRuntime) -> Result<(), Fail> {
 
 /// What a text is refused for, `None` where it is a script.
 fn refusal(alloc: Global, text: &[u8]) -> Option<ScriptError> {
-    if text.len() > 65_536 {
+    if text.len() > 10_000 {
         return None;
     }
     script(alloc, text).err()

@@ -79,15 +79,15 @@ fn ones(alloc: Global, count: u32) -> Result<Vec<u8>, Fail> {
 #[test]
 fn a_long_script(rt: HostRuntime) -> Result<(), Fail> {
     let layout = b"L M; Q 1; E";
-    let script = ones(rt.alloc(), 65_537)?;
+    let script = ones(rt.alloc(), 1_048_577)?;
     let ended = edited(rt.alloc(), layout, script.as_slice())?;
     let limit = Status::Limit {
         kind: 10,
-        count: 65_537,
+        count: 1_048_577,
     };
     assert_eq!(rt; ended.status, limit);
     assert_eq!(rt; ended.out.bytes().len(), 0);
-    let script = ones(rt.alloc(), 65_536)?;
+    let script = ones(rt.alloc(), 1_048_576)?;
     let ended = edited(rt.alloc(), layout, script.as_slice())?;
     assert_eq!(rt; ended.status.code(), 3u8);
     Ok(())

@@ -78,7 +78,7 @@ fn row(alloc: Global) -> Option<Session> {
 /// As many boxes as a layer may have, all in one place.
 fn full_layer(alloc: Global) -> Option<Session> {
     let mut prims = Vec::new(alloc);
-    for _ in 0..50_000 {
+    for _ in 0..1_000_000 {
         push(&mut prims, 0, 0, 200, 200)?;
     }
     begin(alloc, prims, Vec::new(alloc))
@@ -299,7 +299,7 @@ fn refusal(alloc: Global) -> Option<(LayerError, bool, u64)> {
 fn a_primitive_too_many(rt: HostRuntime) {
     let limit = LayerError::Limit {
         kind: 2,
-        count: 50_001,
+        count: 1_000_001,
     };
     assert_eq!(rt; refusal(rt.alloc()), Some((limit, true, 0)));
 }
@@ -352,12 +352,12 @@ fn room_for_one_box_more(rt: HostRuntime) -> Result<(), Fail> {
     let alloc = rt.alloc();
     let wanted = Some(LayerError::Limit {
         kind: 2,
-        count: 50_001,
+        count: 1_000_001,
     });
-    let points = polygon(alloc, 49_999).ok_or("no polygon")?;
+    let points = polygon(alloc, 999_999).ok_or("no polygon")?;
     let drawn = begin(alloc, points, Vec::new(alloc));
     assert_eq!(rt; second_refusal(alloc, drawn), wanted);
-    let most = copies(alloc, 49_999).ok_or("no boxes")?;
+    let most = copies(alloc, 999_999).ok_or("no boxes")?;
     let kept = copies(alloc, 9).ok_or("no boxes")?;
     assert_eq!(rt; second_refusal(alloc, begin(alloc, most, kept)), wanted);
     Ok(())

@@ -1,6 +1,7 @@
 -- What is due for words and texts: one status at most, and with which statuses it ends.
 use Rattle.std.proofs.Common.{◌≡◌, ◌∙◌, ℕ, ◌<◌, List, [], length, Option, Some, true, refl, sym, ap, subst}
 use Rattle.std.specs.Prelude.{Result, Ok, Err}
+use Rattle.dpl_limits.specs.declared.TheConstants.{MOST_LAYOUT_BYTES}
 use Rattle.dpl_limits.specs.declared.counted.Counted.TheVariants.{LayoutBytes}
 use Rattle.dpl_gen.specs.Layout.{layout}
 use Rattle.dpl_words.specs.declared.command.Command.{Command}
@@ -56,7 +57,7 @@ opened_once x second e f (o, is, p) (q, also, r) = p.1 ∙ ap (λ (z : Opened). 
 
 bytes_once : (c : Command) (text second : List ℕ) → IsOnce (FirstOf (bytes_reasons c text second))
 bytes_once c text second = first_once (bytes_reasons c text second)
-    (passed_once LayoutBytes ((reads_layout c ≡ true) × (16777216 < length text)), (opened_once (opens c) second, tt))
+    (passed_once LayoutBytes ((reads_layout c ≡ true) × (MOST_LAYOUT_BYTES < length text)), (opened_once (opens c) second, tt))
 
 one_for : (c : Command) (text second : List ℕ) (a b : Status) (x y : List ℕ) → IsDueFor c text second a x → IsDueFor c text second b y → a ≡ b
 one_for c text second _ _ _ _ (too_long e r) (too_long f q) = ap status_of (bytes_once c text second e f r q)

@@ -1,6 +1,7 @@
 -- A text is a script of one list of lines, which is no longer than the text, and two drawings of one text are the same.
 use Rattle.std.proofs.Common.{arith, ◌≡◌, ◌∙◌, ◌+◌, ◌≤◌, ◌<◌, ◌^◌, ℕ, suc, zero, List, [], ◌∷◌, length, map, refl, sym, ap}
 use Rattle.std.specs.Prelude.{codes, All}
+use Rattle.dpl_limits.specs.declared.TheConstants.{MOST_SCRIPT_BYTES}
 use Rattle.dpl_form.proofs.TextLemmas.{lines_in-short}
 use Rattle.dpl_cell.specs.declared.point.Point.{Point}
 use Rattle.dpl_cell.specs.declared.rect.Rect.{Rect}
@@ -84,7 +85,7 @@ one_script text ls ms a b = edits_same ls ms (lines_same (map plain_line ls) (ma
 -- ---- their number
 
 -- a session can take all lines of a script
-pub few_lines : (text : List ℕ) (ls : List Line) (count : ℕ) → count ≡ 0 → length text ≤ 65536 → IsScript text (map plain_line ls) → count + length ls < 2 ^ 32
+pub few_lines : (text : List ℕ) (ls : List Line) (count : ℕ) → count ≡ 0 → length text ≤ MOST_SCRIPT_BYTES → IsScript text (map plain_line ls) → count + length ls < 2 ^ 32
 few_lines text ls count none short s =
     let a = lines_in-short text in
     let b = ap length s.is in

@@ -2,6 +2,7 @@
 use Rattle.std.proofs.Common.{arith, ◌≡◌, ◌+◌, ℕ, ◌<◌, ◌≤◌, List, [], ◌∷◌, length, true, refl, ap}
 use Rattle.std.specs.Prelude.{count_by, cond, not, ◌||◌}
 use Rattle.std.proofs.lemmas.List.Sums.{sum_by-cons}
+use Rattle.dpl_limits.specs.declared.TheConstants.{MOST_LAYOUT_BYTES, MOST_REPORT_BYTES, MOST_SCRIPT_BYTES}
 use Rattle.dpl_sign.specs.declared.edges.Kind.{Kind}
 use Rattle.dpl_sign.specs.declared.edges.Kind.TheVariants.{Bond, Stitch, Clash}
 use Rattle.dpl_sign.specs.declared.edges.Edge.{Edge}
@@ -29,16 +30,16 @@ use Rattle.dpl_run.specs.due.Edit.IsScriptDue.{bad_line}
 use Rattle.dpl_run.specs.due.Load.{loaded_line}
 use Rattle.dpl_run.proofs.ReadingLemmas.{long_layout, long_second, report_named, script_named}
 
-pub long_layout_due : (c : Command) (text second : List ℕ) → reads_layout c ≡ true → 16777216 < length text
-    → IsDueFor c text second (Limit 1 16777217) []
+pub long_layout_due : (c : Command) (text second : List ℕ) → reads_layout c ≡ true → MOST_LAYOUT_BYTES < length text
+    → IsDueFor c text second (Limit 1 (MOST_LAYOUT_BYTES + 1)) []
 long_layout_due c text second r long = long_layout c text second r long
 
-pub long_report_due : (o : PlainOptions) (name text second : List ℕ) → length text ≤ 16777216 → 268435456 < length second
-    → IsDueFor (asked.Layout o (Check name)) text second (Limit 9 268435457) []
+pub long_report_due : (o : PlainOptions) (name text second : List ℕ) → length text ≤ MOST_LAYOUT_BYTES → MOST_REPORT_BYTES < length second
+    → IsDueFor (asked.Layout o (Check name)) text second (Limit 9 (MOST_REPORT_BYTES + 1)) []
 long_report_due o name text second short long = long_second (asked.Layout o (Check name)) text second (report_named name) refl (λ r. short) long
 
-pub long_script_due : (o : PlainOptions) (name text second : List ℕ) → length text ≤ 16777216 → 65536 < length second
-    → IsDueFor (asked.Layout o (Edit name)) text second (Limit 10 65537) []
+pub long_script_due : (o : PlainOptions) (name text second : List ℕ) → length text ≤ MOST_LAYOUT_BYTES → MOST_SCRIPT_BYTES < length second
+    → IsDueFor (asked.Layout o (Edit name)) text second (Limit 10 (MOST_SCRIPT_BYTES + 1)) []
 long_script_due o name text second short long = long_second (asked.Layout o (Edit name)) text second (script_named name) refl (λ r. short) long
 
 pub no_drawing_due : (o : PlainOptions) (text script : List ℕ) (e : LayerError) → FirstOf (drawing_reasons o text) e

@@ -4,6 +4,7 @@ use Rattle.std.proofs.Common.{Bool, true, false, Option, Some, None, refl, sym, 
 use Rattle.std.specs.Prelude.{Ok, IfSome}
 use Rattle.std.proofs.lemmas.List.{append_cancel_left}
 use Rattle.std.specs.Io.KnownBytes.{Consumes, IsAtEnd}
+use Rattle.dpl_limits.specs.declared.TheConstants.{MOST_LAYOUT_BYTES, MOST_REPORT_BYTES, MOST_SCRIPT_BYTES}
 use Rattle.dpl_ext.specs.Device.{Seen, Texts, Rose, RoseBy}
 use Rattle.dpl_ext.specs.Reading.{IsWhole}
 use Rattle.dpl_gen.specs.Layout.{layout}
@@ -43,15 +44,15 @@ told_where true left text t e = t
 told_where false left text t e = absurd (cc)
 
 same_layout : (reads : Bool) (before now : Seen) (bytes text : List ℕ)
-    → (reads ≡ true → IsWhole before now bytes 16777216) → IsLayoutTold reads before.left text → reads ≡ true
+    → (reads ≡ true → IsWhole before now bytes MOST_LAYOUT_BYTES) → IsLayoutTold reads before.left text → reads ≡ true
     → text ≡ bytes
-same_layout reads before now bytes text whole told e = read_is before now bytes text 16777216 (whole e) (told_where reads before.left text told e)
+same_layout reads before now bytes text whole told e = read_is before now bytes text MOST_LAYOUT_BYTES (whole e) (told_where reads before.left text told e)
 
 short_layout : (reads : Bool) (before now : Seen) (bytes text : List ℕ)
-    → (reads ≡ true → IsWhole before now bytes 16777216) → IsLayoutTold reads before.left text
+    → (reads ≡ true → IsWhole before now bytes MOST_LAYOUT_BYTES) → IsLayoutTold reads before.left text
     → IsShort reads text
 short_layout reads before now bytes text whole told e =
-    subst (λ (z : List ℕ). length z ≤ 16777216) (sym (same_layout reads before now bytes text whole told e))
+    subst (λ (z : List ℕ). length z ≤ MOST_LAYOUT_BYTES) (sym (same_layout reads before now bytes text whole told e))
     (whole e).within
 
 same_second : (o : Option Opened) (texts : Option Texts) (bytes second : List ℕ) → IsSecondRead o texts bytes
@@ -75,7 +76,7 @@ script_named name = record { name = name; counted = ScriptBytes }
 -- texts within their limits refuse nothing
 bytes_free : (c : Command) (text second : List ℕ) → IsShort (reads_layout c) text → IsSmall (opens c) second → NoneOf (bytes_reasons c text second)
 bytes_free c text second short small =
-    let L : Reason = IsPassed LayoutBytes ((reads_layout c ≡ true) × (16777216 < length text)) in
+    let L : Reason = IsPassed LayoutBytes ((reads_layout c ≡ true) × (MOST_LAYOUT_BYTES < length text)) in
     none_cons L (IsOpenedLong (opens c) second ∷ []) (λ e r. let few = short r.0.0 in let many = r.0.1 in omega (arith, few, many))
     (none_cons (IsOpenedLong (opens c) second) [] (λ e q. few_second (opens c) q.0 q.1 small q.2.0) no_first) where
       few_second : (x : Option Opened) (o : Opened) → x ≡ Some o → IsSmall x second → most_of o.counted < length second → ⊥
@@ -86,9 +87,9 @@ bytes_free c text second short small =
           omega (arith, few, many)
 
 -- a layout that is too long is refused
-pub long_layout : (c : Command) (text second : List ℕ) → reads_layout c ≡ true → 16777216 < length text → IsDueFor c text second (Limit 1 16777217) []
+pub long_layout : (c : Command) (text second : List ℕ) → reads_layout c ≡ true → MOST_LAYOUT_BYTES < length text → IsDueFor c text second (Limit 1 (MOST_LAYOUT_BYTES + 1)) []
 long_layout c text second r long = too_long (passed LayoutBytes)
-    (first (IsPassed LayoutBytes ((reads_layout c ≡ true) × (16777216 < length text))) (IsOpenedLong (opens c) second ∷ [])
+    (first (IsPassed LayoutBytes ((reads_layout c ≡ true) × (MOST_LAYOUT_BYTES < length text))) (IsOpenedLong (opens c) second ∷ [])
     (passed LayoutBytes) ((r, long), refl))
 
 -- and so is a text that is opened
@@ -96,7 +97,7 @@ pub long_second : (c : Command) (text second : List ℕ) (o : Opened) → opens 
     → IsShort (reads_layout c) text → most_of o.counted < length second
     → IsDueFor c text second (Limit (number_of o.counted) (most_of o.counted + 1)) []
 long_second c text second o is short long = too_long (passed o.counted)
-    (later (IsPassed LayoutBytes ((reads_layout c ≡ true) × (16777216 < length text))) (IsOpenedLong (opens c) second ∷ [])
+    (later (IsPassed LayoutBytes ((reads_layout c ≡ true) × (MOST_LAYOUT_BYTES < length text))) (IsOpenedLong (opens c) second ∷ [])
     (passed o.counted) (λ e r. let few = short r.0.0 in let many = r.0.1 in omega (arith, few, many))
     (first (IsOpenedLong (opens c) second) [] (passed o.counted) (o, is, (long, refl))))
 
@@ -128,7 +129,7 @@ free_map Due Other f NoMemory x p = p
 
 -- the texts were read whole, and the command was carried out
 pub carried_due : (c : Command) (layout layout_now : Seen) (texts : Option Texts) (bytes others text second : List ℕ) (a : Status) (x : List ℕ)
-    → (reads_layout c ≡ true → IsWhole layout layout_now bytes 16777216) → IsSecondRead (opens c) texts others
+    → (reads_layout c ≡ true → IsWhole layout layout_now bytes MOST_LAYOUT_BYTES) → IsSecondRead (opens c) texts others
     → IsSmall (opens c) others → IsWorked (DueOf c bytes others) a x
     → IsLayoutTold (reads_layout c) layout.left text × IsSecondTold (opens c) texts second
     → IsDueOrFree (IsDueFor c text second) a x
@@ -163,7 +164,7 @@ stops_at Due before now text kind most WriteFault x w told none f = absurd w
 
 -- why the layout of a command was not read whole
 abbrev StopsLayout : Command → Seen → Seen → Status → Type 0
-StopsLayout c before now s = (reads_layout c ≡ true) × StopsReading before now 1 16777216 s
+StopsLayout c before now s = (reads_layout c ≡ true) × StopsReading before now 1 MOST_LAYOUT_BYTES s
 
 -- where a layout stops the reading, its status is due or free
 pub layout_due : (c : Command) (before now : Seen) (text second : List ℕ) (s t : Status) (x : List ℕ)
@@ -171,7 +172,7 @@ pub layout_due : (c : Command) (before now : Seen) (text second : List ℕ) (s t
     → IsDueOrFree (IsDueFor c text second) t x
 layout_due c before now text second s t x w e none told =
     subst (λ z. IsDueOrFree (IsDueFor c text second) z x) (sym e)
-    (stops_at (IsDueFor c text second) before now text 1 16777216 s x w.1
+    (stops_at (IsDueFor c text second) before now text 1 MOST_LAYOUT_BYTES s x w.1
     (told_where (reads_layout c) before.left text told w.0) none (λ long. long_layout c text second w.0 long))
 
 fault_where : (reads : Bool) (before now : Seen) → reads ≡ true → Rose before.faults now.faults → IsLayoutFault reads before now
@@ -182,22 +183,22 @@ fault_where false before now e r = absurd (cc)
 pub layout_fault : (c : Command) (before now second second_now : Seen) (s t : Status)
     → StopsLayout c before now s → t ≡ s → t ≡ ReadFault → IsReadFault (Ok c) before now second second_now
 layout_fault c before now second second_now s t w e f =
-    inl (fault_where (reads_layout c) before now w.0 (subst (StopsReading before now 1 16777216) (sym e ∙ f) w.1))
+    inl (fault_where (reads_layout c) before now w.0 (subst (StopsReading before now 1 MOST_LAYOUT_BYTES) (sym e ∙ f) w.1))
 
 -- where limit 1 is passed, one byte more of the layout was read than is taken
 pub layout_limit : (c : Command) (before now : Seen) (s t : Status) (count : ℕ) → StopsLayout c before now s →
-    t ≡ s → t ≡ Limit 1 count → PassesBytes 16777217 count before now
-layout_limit c before now s t count w e f = let p = subst (StopsReading before now 1 16777216) (sym e ∙ f) w.1 in (p.1, p.2)
+    t ≡ s → t ≡ Limit 1 count → PassesBytes (MOST_LAYOUT_BYTES + 1) count before now
+layout_limit c before now s t count w e f = let p = subst (StopsReading before now 1 MOST_LAYOUT_BYTES) (sym e ∙ f) w.1 in (p.1, p.2)
 
 -- a layout passes no limit of reports
 pub layout_no_limit : (c : Command) (before now : Seen) (s t : Status) (count : ℕ) (P : Type 0)
     → StopsLayout c before now s → t ≡ s → t ≡ Limit 9 count → P
-layout_no_limit c before now s t count P w e f = let p = subst (StopsReading before now 1 16777216) (sym e ∙ f) w.1 in absurd (omega (arith, p.0))
+layout_no_limit c before now s t count P w e f = let p = subst (StopsReading before now 1 MOST_LAYOUT_BYTES) (sym e ∙ f) w.1 in absurd (omega (arith, p.0))
 
 -- a layout passes no limit of scripts
 pub layout_no_script : (c : Command) (before now : Seen) (s t : Status) (count : ℕ) (P : Type 0)
     → StopsLayout c before now s → t ≡ s → t ≡ Limit 10 count → P
-layout_no_script c before now s t count P w e f = let p = subst (StopsReading before now 1 16777216) (sym e ∙ f) w.1 in absurd (omega (arith, p.0))
+layout_no_script c before now s t count P w e f = let p = subst (StopsReading before now 1 MOST_LAYOUT_BYTES) (sym e ∙ f) w.1 in absurd (omega (arith, p.0))
 
 -- a shelf that nobody asks stays as it is
 pub untouched : (o : Option Opened) (before : Seen) → IsSecondTouched o before before
@@ -217,9 +218,9 @@ reading_bare before now kind most WriteFault x w none = w
 
 -- nothing is written where a layout stops the reading
 pub layout_bare : (c : Command) (before now : Seen) (s t : Status) (x : List ℕ) → StopsLayout c before now s → t ≡ s → x ≡ [] → IsBare t x
-layout_bare c before now s t x w e none = subst (λ z. IsBare z x) (sym e) (reading_bare before now 1 16777216 s x w.1 none)
+layout_bare c before now s t x w e none = subst (λ z. IsBare z x) (sym e) (reading_bare before now 1 MOST_LAYOUT_BYTES s x w.1 none)
 
-reading_status : (c : Command) (before now : Seen) (s : Status) → reads_layout c ≡ true → StopsReading before now 1 16777216 s → IsStatusOf (Ok c) s
+reading_status : (c : Command) (before now : Seen) (s : Status) → reads_layout c ≡ true → StopsReading before now 1 MOST_LAYOUT_BYTES s → IsStatusOf (Ok c) s
 reading_status c before now ReadFault e w = tt
 reading_status c before now NoMemory e w = tt
 reading_status c before now (Limit k count) e w = inl (w.0, e)
@@ -263,7 +264,7 @@ opening_at c (Some o) is before now texts text second s x w short told none =
 
 -- where the second text stops the reading, its status is due or free
 pub second_due : (c : Command) (layout layout_now before now : Seen) (texts : Option Texts) (bytes text second : List ℕ) (s t : Status) (x : List ℕ)
-    → (reads_layout c ≡ true → IsWhole layout layout_now bytes 16777216) → StopsOpening (opens c) before now texts s → t ≡ s → x ≡ []
+    → (reads_layout c ≡ true → IsWhole layout layout_now bytes MOST_LAYOUT_BYTES) → StopsOpening (opens c) before now texts s → t ≡ s → x ≡ []
     → IsLayoutTold (reads_layout c) layout.left text × IsSecondTold (opens c) texts second → IsDueOrFree (IsDueFor c text second) t x
 second_due c layout layout_now before now texts bytes text second s t x whole w e none told =
     let short = short_layout (reads_layout c) layout layout_now bytes text whole told.0 in
@@ -292,18 +293,18 @@ counted_is (asked.Layout options (Edit name)) o e = let a : script_named name �
 
 -- so its limit is the one or the other
 abbrev PassesOpened : ℕ → ℕ → Seen → Seen → Type 0
-PassesOpened k n before now = ((k ≡ 9) × PassesBytes 268435457 n before now) ⊎ ((k ≡ 10) × PassesBytes 65537 n before now)
+PassesOpened k n before now = ((k ≡ 9) × PassesBytes (MOST_REPORT_BYTES + 1) n before now) ⊎ ((k ≡ 10) × PassesBytes (MOST_SCRIPT_BYTES + 1) n before now)
 
 opened_limit : (o : Opened) (before now : Seen) (texts : Option Texts) (k n : ℕ)
     → (o.counted ≡ ReportBytes) ⊎ (o.counted ≡ ScriptBytes) → StopsSecond o before now texts (Limit k n)
     → PassesOpened k n before now
 opened_limit o before now texts k n (inl r) w =
     let kind : number_of o.counted ≡ 9 = ap number_of r in
-    let most : most_of o.counted ≡ 268435456 = ap most_of r in
+    let most : most_of o.counted ≡ MOST_REPORT_BYTES = ap most_of r in
     inl (w.0 ∙ kind, subst (λ z. (n ≡ z + 1) × RoseBy (z + 1) before.given now.given) most (w.1, w.2))
 opened_limit o before now texts k n (inr r) w =
     let kind : number_of o.counted ≡ 10 = ap number_of r in
-    let most : most_of o.counted ≡ 65536 = ap most_of r in
+    let most : most_of o.counted ≡ MOST_SCRIPT_BYTES = ap most_of r in
     inr (w.0 ∙ kind, subst (λ z. (n ≡ z + 1) × RoseBy (z + 1) before.given now.given) most (w.1, w.2))
 
 opening_limit : (c : Command) (o : Option Opened) → opens c ≡ o
@@ -318,11 +319,11 @@ stopped_limit : (c : Command) (before now : Seen) (texts : Option Texts) (s t : 
 stopped_limit c before now texts s t k count w e f = opening_limit c (opens c) refl before now texts k count
     (subst (StopsOpening (opens c) before now texts) (sym e ∙ f) w)
 
-limit_of_report : (count : ℕ) (before now : Seen) → PassesOpened 9 count before now → PassesBytes 268435457 count before now
+limit_of_report : (count : ℕ) (before now : Seen) → PassesOpened 9 count before now → PassesBytes (MOST_REPORT_BYTES + 1) count before now
 limit_of_report count before now (inl p) = p.1
 limit_of_report count before now (inr p) = absurd (omega (arith, p.0))
 
-limit_of_script : (count : ℕ) (before now : Seen) → PassesOpened 10 count before now → PassesBytes 65537 count before now
+limit_of_script : (count : ℕ) (before now : Seen) → PassesOpened 10 count before now → PassesBytes (MOST_SCRIPT_BYTES + 1) count before now
 limit_of_script count before now (inl p) = absurd (omega (arith, p.0))
 limit_of_script count before now (inr p) = p.1
 
@@ -333,13 +334,13 @@ no_limit_of_bytes count before now (inr p) = omega (arith, p.0)
 -- where limit 9 is passed, one byte more of the report was read than is taken
 pub second_limit : (c : Command) (before now : Seen) (texts : Option Texts) (s t : Status) (count : ℕ)
     → StopsOpening (opens c) before now texts s → t ≡ s → t ≡ Limit 9 count
-    → PassesBytes 268435457 count before now
+    → PassesBytes (MOST_REPORT_BYTES + 1) count before now
 second_limit c before now texts s t count w e f = limit_of_report count before now (stopped_limit c before now texts s t 9 count w e f)
 
 -- where limit 10 is passed, one byte more of the script was read than is taken
 pub second_script : (c : Command) (before now : Seen) (texts : Option Texts) (s t : Status) (count : ℕ)
     → StopsOpening (opens c) before now texts s → t ≡ s → t ≡ Limit 10 count
-    → PassesBytes 65537 count before now
+    → PassesBytes (MOST_SCRIPT_BYTES + 1) count before now
 second_script c before now texts s t count w e f = limit_of_script count before now (stopped_limit c before now texts s t 10 count w e f)
 
 -- a second text passes no limit of layouts

@@ -1,7 +1,7 @@
 //! The tiles of a layout.
 //!
 //! A run is a maximal stretch of a layout's cells in one row, and a tile is a maximal upright stack of equal runs.
-//! `tiles` gives all tiles in order, and answers `TooMany` exactly where there are more than 100,000 of them.
+//! `tiles` gives all tiles in order, and answers `TooMany` exactly where there are more than `MOST_TILES` of them.
 //! `tiles_share_out` is the law that each cell of a layout lies in exactly one of its tiles.
 #![tactic(auto)]
 

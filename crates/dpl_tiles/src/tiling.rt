@@ -30,7 +30,7 @@ use std::alloc::Global;
 ///
 /// # Errors
 ///
-/// `TooMany` where there are more than 100,000 tiles, and `NoMemory` where memory runs out.
+/// `TooMany` where there are more than `MOST_TILES` tiles, and `NoMemory` where memory runs out.
 pub fn tiles(alloc: Global, layout: &Layout) -> Result<Vec<Rect>, LimitError>
     ensures tiles { IfOk result (λ v. AreTiles (cells_of layout.now) (map corners_of v.items)) }
     ensures few { IfOk result (λ v. length v.items ≤ MOST_TILES) }

@@ -166,7 +166,7 @@ fn edit_in(alloc: Global, line: &[u8]) -> Result<Option<Line>, NoMemory>
 /// The lines of a script, in order. A line is not of the form where it is neither `add X1 Y1 X2 Y2`, the corners of a
 /// rectangle in grid units, nor `remove N`, numbers without leading zeros, each behind one space, and one line end.
 ///
-/// The text has at most 65,536 bytes.
+/// The text has at most `MOST_SCRIPT_BYTES` bytes.
 pub fn script(alloc: Global, text: &[u8]) -> Result<Vec<Line>, ScriptError>
     requires { length text.now ≤ MOST_SCRIPT_BYTES }
     ensures lines { IfOk result (λ v. IsScript text.now (map plain_line v.items)) }

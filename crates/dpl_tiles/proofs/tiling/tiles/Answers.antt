@@ -3,6 +3,7 @@ use Rattle.dpl_cell.specs.Places.{corners_of}
 use Rattle.dpl_cell.specs.Layers.{cells_of}
 use Rattle.std.proofs.lemmas.List.{length-map}
 use Rattle.std.proofs.lemmas.List.Sorted.{length_permutation}
+use Rattle.dpl_limits.specs.declared.TheConstants.{MOST_TILES}
 use Rattle.dpl_tiles.specs.Stacks.{AreAllTiles}
 use Rattle.dpl_tiles.proofs.OrdinateLemmas.{rows_rise, rows_in_range, rows_have}
 use Rattle.dpl_tiles.proofs.TileLemmas.{sorted_tiles, not_more}
@@ -31,7 +32,7 @@ returns-clause-few c = rw (length_permutation _ _ c.sort.ensures.same) c.in_ok-t
 pub returns-clause-exact : goal.returns-clause-exact
 returns-clause-exact c = λ more.
     let all : AreAllTiles (cells_of c.args.layout.now) c.in_ok-tiles.tiles.items = rw c.as_slice-prims.ensures at c.in_ok-tiles.ensures.tiles in
-    let few : length (map corners_of c.sort.new.tiles.items) ≤ 100000 =
+    let few : length (map corners_of c.sort.new.tiles.items) ≤ MOST_TILES =
     rw (length-map c.sort.new.tiles.items corners_of, length_permutation _ _ c.sort.ensures.same)
     c.in_ok-tiles.ensures.few in
-    absurd (not_more _ _ 100000 (sorted_tiles _ _ _ all c.sort.ensures.same c.sort.ensures.sorted) few more)
+    absurd (not_more _ _ MOST_TILES (sorted_tiles _ _ _ all c.sort.ensures.same c.sort.ensures.sorted) few more)

@@ -1,5 +1,6 @@
 use Rattle.std.proofs.Common.{rules, arith, ◌-◌, ◌∙◌, refl, sym, subst, [], get_or, pos, SFits, w64}
 use Rattle.std.proofs.lemmas.Int.{ints, to_z-of_z}
+use Rattle.dpl_limits.specs.declared.TheConstants.{MOST_TILES}
 use Rattle.dpl_tiles.specs.Stacks.{ending}
 use Rattle.dpl_stacks.specs.Stacks.{stacks_of}
 use Rattle.dpl_tiles.specs.Windows.{AddsClosed}
@@ -42,7 +43,7 @@ step-requires-clause-swept c =
     simp to_z-of_z c.loop-k.invariant.reached
 
 pub returns-then-len-gt-MOST_TILES-clause-many : goal.returns-then-len-gt-MOST_TILES-clause-many
-returns-then-len-gt-MOST_TILES-clause-many c = λ e. more_tiles _ _ _ 100000 c.in_ok-step.ensures.done (search rules)
+returns-then-len-gt-MOST_TILES-clause-many c = λ e. more_tiles _ _ _ MOST_TILES c.in_ok-step.ensures.done (search rules)
 
 pub loop-k-preserved : goal.loop-k-preserved
 loop-k-preserved c =
@@ -82,7 +83,7 @@ returns-then-len-gt-MOST_TILES-2-clause-many c = λ t.
     (simp to_z-of_z at c.in_ok-close_all.ensures)) in
     let done = swept_last _ _ _ _ _ (rows_top c.args.prims.now c.args.rows.now c.loop-k.k c.requires.sorted
     c.requires.all c.loop-k-test.false c.loop-k.auto.k-end) c.loop-k.invariant.reached a in
-    more_tiles _ _ _ 100000 done.done (search rules)
+    more_tiles _ _ _ MOST_TILES done.done (search rules)
 
 pub returns-clause-tiles : goal.returns-clause-tiles
 returns-clause-tiles c =
