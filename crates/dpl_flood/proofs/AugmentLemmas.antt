@@ -1,11 +1,10 @@
 -- Two trees end, and what stood in them rests.
-use Rattle.std.proofs.Common.{arith, ◌≡◌, ◌≢◌, ℕ, ◌+◌, ◌*◌, ◌<◌, refl, sym, ap, ◌∙◌, subst, inl, inr, true, false, Bool, None, Option, List, length, get_or, take, drop, ◌++◌}
+use Rattle.std.proofs.Common.{arith, ◌≡◌, ◌≢◌, ℕ, ◌+◌, ◌*◌, ◌<◌, refl, sym, ap, ◌∙◌, subst, inl, inr, true, false, Bool, None, Option, List, [], length, get_or, take, drop, ◌++◌}
 use Rattle.std.proofs.Math.Path.{subst₂}
 use Rattle.std.proofs.lemmas.Bool.{cases_eq, cases_lt, true≢false}
-use Rattle.std.specs.Prelude.{slice_set}
 use Rattle.std.specs.Vec.{with_items}
-use Rattle.std.proofs.lemmas.List.{get_or_past, get_or-set_other, length-set}
-use Rattle.std.proofs.lemmas.Grind.{get_or-set_at}
+use Rattle.std.proofs.lemmas.List.{get_or_past}
+use Rattle.dpl_laminar.specs.Families.{has}
 use Rattle.dpl_laminar.specs.Storing.{sets_of}
 use Rattle.dpl_dual.specs.declared.crosses.Dual.{Dual}
 use Rattle.dpl_tree.specs.declared.tree.Tree.{Tree}
@@ -13,7 +12,7 @@ use Rattle.dpl_tree.specs.Stages.{IsStage, IsReady, Ends}
 use Rattle.dpl_tree.specs.steps.Forests.{Forest, free, gain}
 use Rattle.dpl_tree.specs.steps.Growth.{AreTightBy}
 use Rattle.dpl_tree.specs.Views as views
-use Rattle.dpl_tree.specs.Views.{forest_of, place_in}
+use Rattle.dpl_tree.specs.Views.{forest_of, place_in, AreListed}
 use Rattle.dpl_list.proofs.Lists.{refilled}
 use Rattle.dpl_tree.proofs.Growing.{place_cases, outer_in, inner_in}
 use Rattle.dpl_flood.specs.declared.state.State.{State}
@@ -30,39 +29,11 @@ use Rattle.dpl_flood.proofs.NameLemmas.{named_rated}
 use Rattle.dpl_flood.proofs.RateLemmas.{forest_ceases}
 use Rattle.dpl_flood.proofs.NotedLemmas.{far_back}
 
--- while what stands in two trees comes to rest: the first so many sets do
-pub record AreResting (tree : Tree) (one two : ℕ) (old now : List Bool) (count : ℕ) : Type 0 where
-  pub many : length now ≡ length old
-  pub stood : (k : ℕ) → k < count → k < length old → InTrees tree one two k → get_or now k false ≡ true
-  pub others : (k : ℕ) → (InTrees tree one two k → ⊥) → get_or now k false ≡ get_or old k false
-
-pub resting_none : (tree : Tree) (one two : ℕ) (old : List Bool) → AreResting tree one two old old 0
-resting_none tree one two old = record { many = refl; stood = λ k h. absurd (omega (arith, h)); others = λ k _. refl }
-
-pub resting_more : (tree : Tree) (one two : ℕ) (old now : List Bool) (count : ℕ) → AreResting tree one two old now count
-    → InTrees tree one two count → AreResting tree one two old (slice_set now count true) (count + 1)
-resting_more tree one two old now count a is = record {
-  many = length-set now count true ∙ a.many;
-  stood = λ k h l w. elim (cases_eq k count) [
-    | inl e ↦ get_or-set_at now count k true false e (omega (arith, e, l, a.many))
-    | inr ne ↦ get_or-set_other now count k true false ne ∙ a.stood k (omega (arith, h, ne)) l w
-  ];
-  others = λ k no. elim (cases_eq k count) [
-    | inl e ↦ absurd (no (subst (InTrees tree one two) (sym e) is))
-    | inr ne ↦ get_or-set_other now count k true false ne ∙ a.others k no
-  ];
-}
-
-pub resting_on : (tree : Tree) (one two : ℕ) (old now : List Bool) (count : ℕ) → AreResting tree one two old now count
-    → (InTrees tree one two count → ⊥) → AreResting tree one two old now (count + 1)
-resting_on tree one two old now count a out = record {
-  many = a.many;
-  stood = λ k h l w. elim (cases_eq k count) [
-    | inl e ↦ absurd (out (subst (InTrees tree one two) e w))
-    | inr ne ↦ a.stood k (omega (arith, h, ne)) l w
-  ];
-  others = a.others;
-}
+-- a set of a tree stands in the row of its number
+pub listed_of : (tree : Tree) (number k : ℕ) (row : List ℕ) → AreListed tree.labels.items tree.trees.items tree.sets → row ≡ get_or tree.sets number []
+    → place_in tree.labels.items k ≢ free → get_or tree.trees.items k 0 ≡ number → has row k ≡ true
+listed_of tree number k row a is stood e =
+    ap (λ (z : List ℕ). has z k) is ∙ ap (λ (z : ℕ). has (get_or tree.sets z []) k) (sym e) ∙ a.each k stood
 
 -- what is left of the trees that do not end
 pub trees_ended : (n : ℕ) (dist : ℕ → ℕ → ℕ) (s : Sea) (x y : Forest) (one two : ℕ) (rests : ℕ → Bool) → s.sets.size ≡ n → AreRated x.place s

@@ -9,6 +9,10 @@ use Rattle.dpl_tree.specs.Views.{place_in}
 use Rattle.dpl_flood.specs.declared.state.State.{State}
 use Rattle.dpl_flood.specs.Forested.{IsNearer, dist_of, trees_of}
 
+-- a set stands in a tree
+abbrev pub InTree : Tree → ℕ → ℕ → Type 0
+InTree tree number k = (place_in tree.labels.items k ≢ free) × (slice_index tree.trees.items k ≡ number)
+
 -- a set stands in one of two trees
 abbrev pub InTrees : Tree → ℕ → ℕ → ℕ → Type 0
 InTrees tree one two k =

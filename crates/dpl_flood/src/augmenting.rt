@@ -1,53 +1,46 @@
 //! Two trees end where tops of them are tight.
 
 ghost use Rattle.std.specs.Prelude.{◌≡◌, ◌≢◌, ◌⊎◌, ◌<◌, ℕ, List, length, slice_index, slice_index_or, true, false};
+ghost use Rattle.dpl_laminar.specs.Families.{has};
 ghost use Rattle.dpl_laminar.specs.Storing.{sets_of};
 ghost use Rattle.dpl_dual.specs.declared.crosses.Dual.{Dual};
-ghost use Rattle.dpl_flood.specs.Ended.{InTrees, HasEnded};
+ghost use Rattle.dpl_tree.specs.Views.{AreListed};
+ghost use Rattle.dpl_flood.specs.Ended.{InTree, InTrees, HasEnded};
 ghost use Rattle.dpl_flood.specs.Forested.{IsForested, IsTied};
 ghost use Rattle.dpl_flood.specs.States.{AreKeys};
 
 use crate::state::State;
-use dpl_tree::{Label, Tree, join_trees};
+use dpl_tree::{Tree, join_trees};
 
-/// Whether a number is one of two.
-fn is_either(number: u32, one: u32, two: u32) -> bool
-    ensures yes { result ≡ true → (number ≡ one) ⊎ (number ≡ two) }
-    ensures no { result ≡ false → (number ≢ one) × (number ≢ two) }
+/// Those of some sets that stand in the tree with a number rest from now on.
+fn rest_standing(tree: &Tree, rests: &mut [bool], sets: &[u32], number: u32)
+    requires labels { length tree.now.labels.items ≡ length rests.old }
+    requires trees { length tree.now.trees.items ≡ length rests.old }
+    ensures stood { (k : ℕ) → has sets.now k ≡ true → InTree tree.now number k → slice_index_or rests.new k false ≡ true }
+    ensures kept { (k : ℕ) → slice_index_or rests.old k false ≡ true → slice_index_or rests.new k false ≡ true }
+    ensures others { (k : ℕ) → (InTree tree.now number k → ⊥) →
+        slice_index_or rests.new k false ≡ slice_index_or rests.old k false }
+    ensures count { length rests.new ≡ length rests.old }
 {
-    if number == one {
-        return true;
-    }
-    number == two
-}
-
-/// Whether a set stands in one of two trees.
-fn stands_in(tree: &Tree, set: usize, one: u32, two: u32) -> bool
-    requires labels { set < length tree.now.labels.items }
-    requires trees { set < length tree.now.trees.items }
-    ensures yes { result ≡ true → InTrees tree.now one two set }
-    ensures no { result ≡ false → InTrees tree.now one two set → ⊥ }
-{
-    match tree.labels[set] {
-        Label::Free => false,
-        _ => is_either(tree.trees[set], one, two),
+    for i in 0..sets.len() {
+        if tree.stands_in(sets[i], number) {
+            rests[sets[i] as usize] = true;
+        }
     }
 }
 
-/// All sets that stand in two trees rest from now on.
+/// All sets that stand in two trees rest from now on. It costs what has stood in them.
 fn rest_trees(tree: &Tree, rests: &mut [bool], one: u32, two: u32)
     requires labels { length tree.now.labels.items ≡ length rests.old }
     requires trees { length tree.now.trees.items ≡ length rests.old }
+    requires listed { AreListed tree.now.labels.items tree.now.trees.items tree.now.sets }
     ensures stood { (k : ℕ) → k < length rests.old → InTrees tree.now one two k → slice_index_or rests.new k false ≡ true }
     ensures others { (k : ℕ) → (InTrees tree.now one two k → ⊥) →
         slice_index_or rests.new k false ≡ slice_index_or rests.old k false }
     ensures count { length rests.new ≡ length rests.old }
 {
-    for i in 0..rests.len() {
-        if stands_in(tree, i, one, two) {
-            rests[i] = true;
-        }
-    }
+    rest_standing(tree, rests, tree.sets.row(one), one);
+    rest_standing(tree, rests, tree.sets.row(two), two);
 }
 
 /// The number of the tree in which the top of a member stands.

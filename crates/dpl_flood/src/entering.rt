@@ -39,7 +39,7 @@ pub fn enter(
     let (from, to) = tie(state, ahead)?;
     match exit_of(&state.family, &state.mates, state.family.tops(to)) {
         Some((_, mate)) => {
-            turn(state, dual, steps, queue, from, to, mate);
+            turn(state, dual, steps, queue, from, to, mate)?;
             Ok(())
         }
         None => unreachable!(),

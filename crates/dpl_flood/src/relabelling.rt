@@ -19,7 +19,7 @@ use std::mem;
 
 /// A free top that was met at a member falls from now on, and that of the mate, which is paired with it, grows: both go into
 /// the tree of the one that met it.
-pub fn grow(state: &mut State, from: u32, to: u32, mate: u32)
+pub fn grow(state: &mut State, from: u32, to: u32, mate: u32) -> Result<(), AllocError>
     requires state { (d : Dual) × IsState d state.old }
     requires from { from < (sets_of state.old.family).size }
     requires to { to < (sets_of state.old.family).size }
@@ -27,19 +27,20 @@ pub fn grow(state: &mut State, from: u32, to: u32, mate: u32)
     requires sized { views.IsSized (sets_of state.old.family).size state.old.tree }
     requires low { (i : ℕ) → slice_index state.old.tree.ranks.items i ≤ most_rank }
     requires free { MayGrow (sea_of state.old) ((sets_of state.old.family).top to) ((sets_of state.old.family).top mate) }
-    ensures grows { Grows (sea_of state.old) ((sets_of state.old.family).top to) ((sets_of state.old.family).top mate)
+    ensures grows { OnOk result (Grows (sea_of state.old) ((sets_of state.old.family).top to) ((sets_of state.old.family).top mate)
         (gains_in (place_in state.new.tree.labels.items)) (losses_in (place_in state.new.tree.labels.items))
-        (λ k. slice_index_or state.new.rests.items k false) }
-    ensures tree { (mates : List (Option ℕ)) → forests.Grows (sets_of state.old.family) (forest_of state.old.tree mates)
-        from to mate (forest_of state.new.tree mates) }
-    ensures sized { views.IsSized (sets_of state.old.family).size state.new.tree }
+        (λ k. slice_index_or state.new.rests.items k false)) }
+    ensures tree { OnOk result ((mates : List (Option ℕ)) → forests.Grows (sets_of state.old.family) (forest_of state.old.tree mates)
+        from to mate (forest_of state.new.tree mates)) }
+    ensures sized { OnOk result (views.IsSized (sets_of state.old.family).size state.new.tree) }
     ensures pairs { (state.new.mates ≡ state.old.mates) × (state.new.joins ≡ state.old.joins) }
-    ensures rest { IsRelabelled state.old state.new }
-    ensures state { (d : Dual) → IsState d state.old → IsState d state.new }
+    ensures rest { OnOk result (IsRelabelled state.old state.new) }
+    ensures state { OnOk result ((d : Dual) → IsState d state.old → IsState d state.new) }
 {
     let outer = state.family.tops(mate);
-    dpl_tree::grow(&state.family, &mut state.tree, from, to, mate);
+    dpl_tree::grow(&state.family, &mut state.tree, from, to, mate)?;
     state.rests[outer as usize] = false;
+    Ok(())
 }
 
 /// No set rests any more: answers which sets did.

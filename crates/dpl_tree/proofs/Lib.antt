@@ -7,6 +7,7 @@ pub mod Events
 pub mod Folded
 pub mod Folding
 pub mod Growing
+pub mod Listing
 pub mod Loads
 pub mod Meetings
 pub mod Nexts

@@ -1,5 +1,5 @@
 -- An inner set and the ring of its children, and what the tree is after it gave way to them.
-use Rattle.std.proofs.Common.{arith, ◌≡◌, ◌≢◌, ℕ, ◌+◌, ◌-◌, ◌*◌, ◌/◌, ◌%◌, ◌<◌, ◌≤◌, refl, sym, ap, ◌∙◌, subst, true, Option, Some, List, length, get_or}
+use Rattle.std.proofs.Common.{arith, ◌≡◌, ◌≢◌, ℕ, ◌+◌, ◌-◌, ◌*◌, ◌/◌, ◌%◌, ◌<◌, ◌≤◌, refl, sym, ap, ◌∙◌, subst, true, Option, Some, List, [], length, get_or}
 use Rattle.std.proofs.Math.Nat.{mod-eq_of_lt}
 use Rattle.dpl_laminar.specs.Families.{Sets, IsFamily, has}
 use Rattle.dpl_laminar.specs.Changes.{IsExpanded}
@@ -9,7 +9,7 @@ use Rattle.dpl_tree.specs.steps.Forests.{Forest, Opens, inner}
 use Rattle.dpl_tree.specs.Mates.{IsExit}
 use Rattle.dpl_tree.specs.Metrics.{AreSymmetric}
 use Rattle.dpl_tree.specs.Stages.{most_rank, IsStage, Advances, AreRanked, KeepsTrees}
-use Rattle.dpl_tree.specs.Views.{mate_in, forest_of, place_in, IsSized}
+use Rattle.dpl_tree.specs.Views.{mate_in, forest_of, place_in, AreListed, IsSized}
 use Rattle.dpl_tree.specs.steps.Growth.{HasGivenWay}
 use Rattle.dpl_tree.specs.steps.Opened.{IsAround, IsOpening, around, Lists, lists_of, forest_in, walked_times, paired_times}
 use Rattle.dpl_tree.specs.steps.Rounds.{IsRingFrom, IsTurned}
@@ -17,6 +17,8 @@ use Rattle.dpl_tree.proofs.Alike.{totals_alike, expanded_alike}
 use Rattle.dpl_tree.proofs.Events.{IsEvent}
 use Rattle.dpl_tree.proofs.Growing.{inner_in}
 use Rattle.dpl_tree.proofs.Counting.{ring_short}
+use Rattle.dpl_tree.proofs.Listing.{listed_wider, listed_open, listed_walk}
+use Rattle.std.proofs.lemmas.Grind.{get_or_default_zero}
 use Rattle.dpl_tree.proofs.RingWalks.{opening_done}
 use Rattle.dpl_tree.proofs.Widening.{given_widens, walked_others, walked_trees_others}
 use Rattle.dpl_tree.proofs.RoundLemmas.{ring_around, around_turned}
@@ -149,17 +151,17 @@ opening_first {n} {f} {set = set} {first = first} {sets = sets} st o is seen =
     (omega (arith, e, k.0), λ z. some_none (f.parent (get_or sets 0 0)) set k.2 (ap f.parent (sym (z ∙ e)) ∙ at.2))
 
 -- an inner set gave way to its ring, by the lists as each step read them: js by the pairs, ss by the entry, ws and ks by the walk
-pub gave_way : {n : ℕ} {f g : Sets} {dist : ℕ → ℕ → ℕ} {t0 t1 t2 : Tree} {set first p : ℕ}
-    → {sets ss ws : List ℕ} {joins js ks : List (ℕ × ℕ)} (mates new : List (Option ℕ)) → AreSymmetric n dist
+pub gave_way : {n : ℕ} {f g : Sets} {dist : ℕ → ℕ → ℕ} {set first p : ℕ}
+    → {sets ss ws : List ℕ} {joins js ks : List (ℕ × ℕ)} (t0 t1 t2 : Tree) (mates new : List (Option ℕ)) → AreSymmetric n dist
     → length mates ≡ n → IsStage n f dist (forest_of t0 mates) → AreRanked (forest_of t0 mates) most_rank
     → IsOpening n f dist (forest_of t0 mates) set (around sets joins p) → IsExpanded f set g → IsFamily g
-    → IsSized n t0 → IsSized n t1 → IsSized n t2 → js ≡ joins → new ≡ paired_times mates js p (length js / 2)
+    → length t1.labels.items ≡ 2 * n → length t1.ranks.items ≡ 2 * n → length t1.links.items ≡ 2 * n → length t1.trees.items ≡ 2 * n → js ≡ joins → new ≡ paired_times mates js p (length js / 2)
     → ss ≡ sets → first ≡ get_or ss 0 0
     → ((ms ns : List (Option ℕ)) → Opens (forest_of t0 ms) set first p (forest_of t1 ns))
     → ws ≡ sets → ks ≡ joins → lists_of t2 ≡ walked_times (lists_of t1) ws ks (p / 2)
     → IsEvent n dist (λ bound. bound + 4 * n) f (forest_of t0 mates) g (forest_of t2 new)
-gave_way {n} {f} {g} {dist} {t0} {t1} {t2} {set} {first} {p} {sets} {ss} {ws} {joins} {js} {ks}
-    mates new me len st small o ex fam _ size _ ej paired es is opens ew ek walked =
+gave_way {n} {f} {g} {dist} {set} {first} {p} {sets} {ss} {ws} {joins} {js} {ks} t0 t1 t2
+    mates new me len st small o ex fam labels ranks links trees ej paired es is opens ew ek walked =
     let x : Forest = forest_of t0 mates in
     let l : Lists = lists_of t1 in
     let first_in : ℕ = get_or sets 0 0 in
@@ -172,7 +174,7 @@ gave_way {n} {f} {g} {dist} {t0} {t1} {t2} {set} {first} {p} {sets} {ss} {ws} {j
     let op2 : Opens x set first_in p (forest_in l (mate_in made)) =
     subst (λ (z : List (Option ℕ)). Opens x set first_in p (forest_in l (mate_in z))) en op in
     let done = λ (bound : ℕ) (r : AreRanked x bound). opening_done n f g dist x set sets joins p mates l bound me len refl st o ex fam
-    (record { labels = size.labels; ranks = size.ranks; links = size.links; trees = size.trees }) op2 r in
+    (record { labels = labels; ranks = ranks; links = links; trees = trees }) op2 r in
     let back : forest_in (walked_times l sets joins (p / 2)) (mate_in made) ≡ forest_of t2 new =
     ap (λ (z : List (Option ℕ)). forest_in (walked_times l sets joins (p / 2)) (mate_in z)) (sym en) ∙
     ap (λ (z : Lists). forest_in z (mate_in new)) (sym el) in
@@ -220,8 +222,35 @@ given_so {f} {g} {dist} {set} {first} {p} {sets} {ss} {ws} {joins} {ks} t0 t1 t2
           same ∙ op.tree_others k (λ e. none 0 (omega (arith, o.place)) (sym (e ∙ ef)));
     }
 
--- a step that keeps the lengths
-pub sized_on : {n : ℕ} {t : Tree} (t' : Tree) → IsSized n t → length t'.labels.items ≡ length t.labels.items
-    → length t'.ranks.items ≡ length t.labels.items → length t'.links.items ≡ length t.labels.items
-    → length t'.trees.items ≡ length t.labels.items → IsSized n t'
-sized_on t' s labels ranks links trees = record { labels = labels ∙ s.labels; ranks = ranks ∙ s.labels; links = links ∙ s.labels; trees = trees ∙ s.labels }
+-- and the sets that stand in the tree are listed, where its row has got those up to the place
+pub listed_given : {n : ℕ} {f : Sets} {dist : ℕ → ℕ → ℕ} {set first p number : ℕ} {sets ls ss ws : List ℕ} {joins : List (ℕ × ℕ)}
+    → (t0 t1 t2 : Tree) (rows : List (List ℕ)) (mates : List (Option ℕ)) (ks : List (ℕ × ℕ)) → IsStage n f dist (forest_of t0 mates)
+    → IsOpening n f dist (forest_of t0 mates) set (around sets joins p) → IsSized n t0 → length rows ≡ length t0.sets
+    → ((key i : ℕ) → has (get_or t0.sets key []) i ≡ true → has (get_or rows key []) i ≡ true) → number ≡ get_or t0.trees.items set number
+    → ls ≡ sets → ((j : ℕ) → j ≤ p → has (get_or rows number []) (get_or ls j 0) ≡ true) → ss ≡ sets → first ≡ get_or ss 0 0
+    → ((ms ns : List (Option ℕ)) → Opens (forest_of t0 ms) set first p (forest_of t1 ns)) → length t1.trees.items ≡ length t0.labels.items
+    → t1.sets ≡ rows → ws ≡ sets → lists_of t2 ≡ walked_times (lists_of t1) ws ks (p / 2) → t2.sets ≡ t1.sets
+    → AreListed t2.labels.items t2.trees.items t2.sets
+listed_given {n} {f} {dist} {set} {first} {p} {number} {sets} {ls} {ss} {ws} {joins} t0 t1 t2 rows mates ks st o size count kept read el listed
+    es is opens many same ew walked kept_on =
+    let at = st.tree.tops set (inner_in o.is_inner) in
+    let hs : set < length t0.trees.items = omega (arith, at.0, size.trees) in
+    let wide = listed_wider t0.labels.items t0.trees.items t0.sets rows size.listed count kept in
+    let en : number ≡ get_or t0.trees.items set 0 = read ∙ get_or_default_zero t0.trees.items set number hs in
+    let hn : number < length rows = omega (arith, en, wide.numbers set hs) in
+    let here = λ (j : ℕ) (h : j ≤ p). (
+    let e : has (get_or rows number []) (get_or sets j 0) ≡ true =
+    ap (λ (z : List ℕ). has (get_or rows number []) (get_or z j 0)) (sym el) ∙ listed j h in e) in
+    let ef : first ≡ get_or sets 0 0 = is ∙ ap (λ (z : List ℕ). get_or z 0 0) es in
+    let op = opens [] [] in
+    let mine : has (get_or rows (get_or t0.trees.items set 0) []) first ≡ true =
+    ap (λ (z : ℕ). has (get_or rows z []) first) (sym en) ∙ ap (has (get_or rows number [])) ef ∙ here 0 (omega arith) in
+    let open_listed = listed_open t0 t1 rows set first p wide op (omega (arith, many, size.labels, size.trees)) hs mine in
+    let own : get_or t1.trees.items (get_or sets 0 0) 0 ≡ number = ap (λ (z : ℕ). get_or t1.trees.items z 0) (sym ef) ∙ op.tree_first ∙ sym en in
+    let few = (around_few st o).0 in
+    let w = listed_walk (lists_of t1) sets ks rows number (p / 2) open_listed hn own (λ j h. omega (arith, few j h, many, size.labels))
+    (λ j h. here j (omega (arith, h))) (omega (arith, o.place)) in
+    let on : lists_of t2 ≡ walked_times (lists_of t1) sets ks (p / 2) =
+    subst (λ (z : List ℕ). lists_of t2 ≡ walked_times (lists_of t1) z ks (p / 2)) ew walked in
+    let after : AreListed t2.labels.items t2.trees.items rows = subst (λ (l : Lists). AreListed l.labels l.trees rows) (sym on) w.listed in
+    subst (λ (z : List (List ℕ)). AreListed t2.labels.items t2.trees.items z) (sym (kept_on ∙ same)) after

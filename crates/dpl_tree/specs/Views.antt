@@ -1,6 +1,7 @@
 -- What the lists of a stage say.
-use Rattle.std.specs.Prelude.{◌≡◌, ℕ, ◌*◌, Bool, true, false, Option, None, List, length}
-use Rattle.std.specs.Prelude.{slice_index, slice_index_or}
+use Rattle.std.specs.Prelude.{◌≡◌, ◌≢◌, ℕ, ◌*◌, ◌<◌, Bool, true, false, Option, None, List, [], ◌∷◌, ◌++◌}
+use Rattle.std.specs.Prelude.{length, slice_index, slice_index_or, slice_set}
+use Rattle.dpl_laminar.specs.Families.{has}
 use Rattle.dpl_tree.specs.declared.tree.Label.{Label}
 use Rattle.dpl_tree.specs.declared.tree.Label.TheVariants.{Free, Outer, Inner}
 use Rattle.dpl_tree.specs.declared.tree.Tree.{Tree}
@@ -40,9 +41,19 @@ forest_of tree mates = record {
   tree = slice_index tree.trees.items;
 }
 
--- the lists of a tree have a place for each number
+-- a row has one number more
+abbrev pub added : List (List ℕ) → ℕ → ℕ → List (List ℕ)
+added rows key number = slice_set rows key (slice_index_or rows key [] ++ (number ∷ []))
+
+-- Each set of a tree stands in the row of the tree's number. What has left the tree may stand there still.
+pub record AreListed (labels : List Label) (trees : List ℕ) (sets : List (List ℕ)) : Type 0 where
+  pub numbers : (i : ℕ) → i < length trees → slice_index trees i < length sets
+  pub each : (i : ℕ) → place_in labels i ≢ free → has (slice_index_or sets (slice_index trees i) []) i ≡ true
+
+-- the lists of a tree have a place for each number, and the sets of each tree are listed
 pub record IsSized (n : ℕ) (tree : Tree) : Type 0 where
   pub labels : length tree.labels.items ≡ 2 * n
   pub ranks : length tree.ranks.items ≡ 2 * n
   pub links : length tree.links.items ≡ 2 * n
   pub trees : length tree.trees.items ≡ 2 * n
+  pub listed : AreListed tree.labels.items tree.trees.items tree.sets

@@ -10,7 +10,7 @@ ghost use Rattle.dpl_tree.specs.steps.Opened.{IsOpening, around};
 ghost use Rattle.dpl_tree.specs.Stages.{most_rank, AreRanked};
 ghost use Rattle.dpl_tree.specs.Views.{forest_of, place_in, IsSized};
 
-use super::giving_way::{enter, pair_round, walk};
+use super::giving_way::{enter, list_up_to, pair_round, walk};
 use super::pairs::exit_of;
 use super::ring::{child_with, place_of, round_from, turned};
 use super::tree::Tree;
@@ -113,6 +113,8 @@ pub fn give_way<L: Ledger>(
     ensures steps { steps.new ≤ steps.old + 1 }
 {
     let path = path_through(alloc, family, mates, tree, set)?;
+    let number = tree.trees[set as usize];
+    list_up_to(&mut tree.sets, number, &path.sets, path.place)?;
     family.expand(set, steps);
     pair_round(mates, &path.joins, path.place);
     let first = first_set(&path.sets);

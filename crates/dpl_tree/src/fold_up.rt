@@ -50,7 +50,7 @@ pub fn fold<L: Ledger>(
     let joins = around(meeting, s, t)?;
     let children = tops_of(alloc, family, &joins)?;
     let set = family.shrink(alloc, &children, &joins, steps)?;
-    replace(tree, &children, top, set);
+    replace(tree, &children, top, set)?;
     drop_inside(family, mates, &joins);
     Ok(set)
 }

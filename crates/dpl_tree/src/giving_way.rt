@@ -2,7 +2,8 @@
 
 ghost use Rattle.std.specs.Prelude.{◌≡◌, ◌≢◌, ℕ, ◌+◌, ◌*◌, ◌/◌, ◌%◌, ◌<◌, ◌≤◌, ◌^◌, List, Option};
 ghost use Rattle.std.specs.Prelude.{nat_lt, if◌then◌else◌, length, slice_index, slice_index_or};
-ghost use Rattle.std.specs.Prelude.{slice_set, IfOk};
+ghost use Rattle.std.specs.Prelude.{slice_set, IfOk, OnOk, true, []};
+ghost use Rattle.dpl_laminar.specs.Families.{has};
 ghost use Rattle.dpl_laminar.specs.declared.TheConstants.{MOST_MEMBERS};
 ghost use Rattle.dpl_tree.specs.Stages.{most_rank};
 ghost use Rattle.dpl_tree.specs.steps.Forests.{Opens};
@@ -10,7 +11,9 @@ ghost use Rattle.dpl_tree.specs.steps.Opened.{join_at, paired_times, lists_of, w
 ghost use Rattle.dpl_tree.specs.Views.{forest_of};
 
 use super::pairs::pair;
+use super::rows::Rows;
 use super::tree::{Label, Tree};
+use std::alloc::AllocError;
 
 /// Pairs the sets of a round two by two, but for the one at an even place.
 pub fn pair_round(mates: &mut [Option<u32>], joins: &[(u32, u32)], place: usize)
@@ -54,6 +57,27 @@ pub fn make_room(ranks: &mut [u64], rank: u64, room: u64)
     }
 }
 
+/// Adds the sets up to a place to the row of a tree.
+pub fn list_up_to(
+    rows: &mut Rows,
+    number: u32,
+    sets: &[u32],
+    place: usize,
+) -> Result<(), AllocError>
+    requires number { number < length rows.old }
+    requires place { place < length sets.now }
+    ensures count { OnOk result (length rows.new ≡ length rows.old) }
+    ensures kept { OnOk result ((key i : ℕ) → has (slice_index_or rows.old key []) i ≡ true →
+        has (slice_index_or rows.new key []) i ≡ true) }
+    ensures listed { OnOk result ((j : ℕ) → j ≤ place →
+        has (slice_index_or rows.new number []) (slice_index sets.now j) ≡ true) }
+{
+    for j in 0..place + 1 {
+        rows.add(number, sets[j])?;
+    }
+    Ok(())
+}
+
 /// Puts the first child into the tree in place of the set.
 pub fn enter(tree: &mut Tree, set: u32, first: u32, room: u64)
     requires set { set < length tree.old.labels.items }
@@ -71,6 +95,7 @@ pub fn enter(tree: &mut Tree, set: u32, first: u32, room: u64)
     ensures links { length tree.new.links.items ≡ length tree.old.labels.items }
     ensures trees { length tree.new.trees.items ≡ length tree.old.labels.items }
     ensures small { (i : ℕ) → slice_index tree.new.ranks.items i ≤ most_rank + 2 * MOST_MEMBERS }
+    ensures sets { tree.new.sets ≡ tree.old.sets }
 {
     let rank = tree.rank(set);
     let link = tree.link(set);
@@ -100,6 +125,7 @@ pub fn walk(tree: &mut Tree, sets: &[u32], joins: &[(u32, u32)], place: usize)
     ensures walked { lists_of tree.new ≡ walked_times (lists_of tree.old) sets.now joins.now
         (place / 2) }
     ensures trees { length tree.new.trees.items ≡ length tree.old.labels.items }
+    ensures sets { tree.new.sets ≡ tree.old.sets }
 {
     for r in 0..place / 2 {
         let out = sets[2 * r + 1] as usize;

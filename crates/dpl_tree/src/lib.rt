@@ -27,6 +27,7 @@ mod meeting;
 mod pairs;
 mod replacing;
 mod ring;
+mod rows;
 mod tree;
 mod way;
 
@@ -36,6 +37,7 @@ pub use growth::grow;
 pub use inside::pair_inside;
 pub use pairs::{exit_of, pair};
 pub use ring::{Round, child_with, round_from};
+pub use rows::Rows;
 pub use std::alloc::AllocError as NoMemory;
 pub use tree::{Label, Tree};
 pub use way::join_trees;

@@ -8,6 +8,9 @@ join_trees-requires-clause-tight c =
     let d = c.requires.tied.0 in
     (dist_of d c.args.state.now, tied_tight d c.args.state.now c.args.join c.deref_mut-2.result.now c.deref_mut-2.ensures.value c.requires.tied.1)
 
+pub rest_trees-requires-clause-listed : goal.rest_trees-requires-clause-listed
+rest_trees-requires-clause-listed c = c.requires.tied.1.forest.sized.listed
+
 pub returns-clause-forest : goal.returns-clause-forest
 returns-clause-forest c = λ d t.
     let one = c.tree_of-one in

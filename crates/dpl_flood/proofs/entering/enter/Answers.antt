@@ -88,14 +88,14 @@ returns-clause-forest c =
     (c.in_ok-from.from, c.in_ok-from.to) t c.in-Some.field-0-0 c.in-Some.mate c.tops.result c.deref.result.now c.tops.ensures.value c.deref.ensures.value
     c.in-Some.ensures.0 c.in-Some.ensures.1 c.in-Some.ensures.2 in
     let grown : HasGrown c.tie.new.state c.turn.new.state c.in_ok-from.from c.in_ok-from.to c.in-Some.mate = record {
-      same = c.turn.ensures.rest;
+      same = c.in_ok-turn-in-Some.ensures.rest;
       mates = c.turn.ensures.pairs.0;
       joins = c.turn.ensures.pairs.1;
-      sized = c.turn.ensures.sized;
-      tree = c.turn.ensures.tree c.tie.new.state.mates.items;
-      grows = c.turn.ensures.grows;
+      sized = c.in_ok-turn-in-Some.ensures.sized;
+      tree = c.in_ok-turn-in-Some.ensures.tree c.tie.new.state.mates.items;
+      grows = c.in_ok-turn-in-Some.ensures.grows;
     } in
-    forest_grown c.args.dual.now c.tie.new.state c.turn.new.state c.in_ok-from.from c.in_ok-from.to c.in-Some.field-0-0 c.in-Some.mate met grown c.turn.ensures.state
+    forest_grown c.args.dual.now c.tie.new.state c.turn.new.state c.in_ok-from.from c.in_ok-from.to c.in-Some.field-0-0 c.in-Some.mate met grown c.in_ok-turn-in-Some.ensures.state
 
 pub returns-clause-nearer : goal.returns-clause-nearer
 returns-clause-nearer c =
@@ -104,12 +104,12 @@ returns-clause-nearer c =
     (c.in_ok-from.from, c.in_ok-from.to) t c.in-Some.field-0-0 c.in-Some.mate c.tops.result c.deref.result.now c.tops.ensures.value c.deref.ensures.value
     c.in-Some.ensures.0 c.in-Some.ensures.1 c.in-Some.ensures.2 in
     let grown : HasGrown c.tie.new.state c.turn.new.state c.in_ok-from.from c.in_ok-from.to c.in-Some.mate = record {
-      same = c.turn.ensures.rest;
+      same = c.in_ok-turn-in-Some.ensures.rest;
       mates = c.turn.ensures.pairs.0;
       joins = c.turn.ensures.pairs.1;
-      sized = c.turn.ensures.sized;
-      tree = c.turn.ensures.tree c.tie.new.state.mates.items;
-      grows = c.turn.ensures.grows;
+      sized = c.in_ok-turn-in-Some.ensures.sized;
+      tree = c.in_ok-turn-in-Some.ensures.tree c.tie.new.state.mates.items;
+      grows = c.in_ok-turn-in-Some.ensures.grows;
     } in
     tied_nearer c.args.dual.now c.args.state.now c.tie.new.state c.turn.new.state c.requires.meets.met.one c.requires.meets.met.two
     (c.in_ok-from.from, c.in_ok-from.to) t (grown_nearer c.args.dual.now c.tie.new.state c.turn.new.state c.in_ok-from.from c.in_ok-from.to c.in-Some.field-0-0 c.in-Some.mate met grown)

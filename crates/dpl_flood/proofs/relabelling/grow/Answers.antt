@@ -19,7 +19,7 @@ index_mut-requires c =
 
 pub returns-clause-grows : goal.returns-clause-grows
 returns-clause-grows c = grown c.requires.state.0 c.args.state.now c.grow.new.tree _ c.args.from c.args.to c.args.mate c.args.state.now.mates.items
-    c.requires.state.1 c.requires.free (c.grow.ensures.grows c.args.state.now.mates.items)
+    c.requires.state.1 c.requires.free (c.in_ok-grow.ensures.grows c.args.state.now.mates.items)
     (ap (λ z. slice_set c.args.state.now.rests.items z false) c.tops-outer.ensures.value)
 
 pub returns-clause-rest : goal.returns-clause-rest
@@ -30,7 +30,7 @@ returns-clause-rest c = record {
   arena = refl;
   time = refl;
   inners = refl;
-  labels = c.grow.ensures.sized.labels ∙ sym c.requires.sized.labels;
+  labels = c.in_ok-grow.ensures.sized.labels ∙ sym c.requires.sized.labels;
   rests = length-set c.args.state.now.rests.items c.tops-outer.result false;
 }
 

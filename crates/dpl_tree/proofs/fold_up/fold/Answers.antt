@@ -1,4 +1,4 @@
-use Rattle.std.proofs.Common.{arith, ◌∙◌}
+use Rattle.std.proofs.Common.{arith, ap, ◌∙◌, length}
 use Rattle.dpl_tree.proofs.Folded.{folding_of, folding_from, folding_asked, tops_seen, free_outside_of, folding_step, folding_ends, folded_up, folded_so}
 use Rattle.dpl_tree.proofs.Growing.{outer_in}
 use Rattle.dpl_tree.proofs.Nexts.{event_next}
@@ -76,7 +76,7 @@ returns-clause-next g c = λ dist k.
     let w = folding_of st q.pair.from q.pair.to k.tight q.pair.apart (c.in_ok-meeting.ensures dist k.by) c.in_ok-joins.ensures c.deref-3.ensures.value in
     let tops = tops_seen w c.in_ok-children.ensures c.deref.ensures.value c.deref-3.ensures.value in
     event_next (λ bound. omega arith) (folded_up st w (c.deref-2.ensures.value ∙ tops) (c.deref-4.ensures.value ∙ tops) c.in_ok-set.ensures.ok
-    c.shrink.ensures.family q.mates c.drop_inside.ensures (c.replace.ensures.folds c.args.mates.now c.drop_inside.new.mates))
+    c.shrink.ensures.family q.mates c.drop_inside.ensures (c.in_ok-replace.ensures.folds c.args.mates.now c.drop_inside.new.mates))
 
 pub returns-clause-folded : goal.returns-clause-folded
 returns-clause-folded g c =
@@ -86,7 +86,7 @@ returns-clause-folded g c =
     let w = folding_of st q.pair.from q.pair.to k.1.tight q.pair.apart (c.in_ok-meeting.ensures k.0 k.1.by) c.in_ok-joins.ensures c.deref-3.ensures.value in
     let tops = tops_seen w c.in_ok-children.ensures c.deref.ensures.value c.deref-3.ensures.value in
     folded_so w (c.deref-2.ensures.value ∙ tops) (c.deref-4.ensures.value ∙ tops) c.in_ok-set.ensures.ok
-    c.shrink.ensures.family q.mates c.drop_inside.ensures (c.replace.ensures.folds c.args.mates.now c.drop_inside.new.mates)
+    c.shrink.ensures.family q.mates c.drop_inside.ensures (c.in_ok-replace.ensures.folds c.args.mates.now c.drop_inside.new.mates)
 
 pub returns-clause-widened : goal.returns-clause-widened
 returns-clause-widened g c =
@@ -97,4 +97,15 @@ returns-clause-widened g c =
     let tops = tops_seen w c.in_ok-children.ensures c.deref.ensures.value c.deref-3.ensures.value in
     folded_by _ _ _ _ st q.pair.from c.in_ok-joins.ensures c.deref-3.ensures.value
     (c.deref-2.ensures.value ∙ tops) (c.deref-4.ensures.value ∙ tops) c.in_ok-set.ensures.ok
-    (c.replace.ensures.folds c.args.mates.now c.drop_inside.new.mates)
+    (c.in_ok-replace.ensures.folds c.args.mates.now c.drop_inside.new.mates)
+
+pub returns-clause-sized : goal.returns-clause-sized
+returns-clause-sized g c =
+    let q = c.requires.sized in
+    record {
+      labels = c.replace.ensures.labels ∙ q.labels;
+      ranks = c.replace.ensures.ranks ∙ q.ranks;
+      links = ap length c.replace.ensures.links ∙ q.links;
+      trees = c.replace.ensures.trees ∙ q.trees;
+      listed = c.in_ok-replace.ensures.listed;
+    }

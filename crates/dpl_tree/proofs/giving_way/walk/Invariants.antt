@@ -10,6 +10,7 @@ invariant-loop-r l = record {
   ranks : length l.tree.ranks.items ≡ length l.fn.tree.labels.items;
   links : length l.tree.links.items ≡ length l.fn.tree.labels.items;
   trees : length l.tree.trees.items ≡ length l.fn.tree.labels.items;
+  sets : l.tree.sets ≡ l.fn.tree.sets;
   walked : lists_of l.tree ≡ walked_times (lists_of l.fn.tree) l.sets l.joins l.r;
   small : (i : ℕ) → get_or l.tree.ranks.items i 0 ≤ most_rank + 2 * MOST_MEMBERS + 2 * l.r;
 }

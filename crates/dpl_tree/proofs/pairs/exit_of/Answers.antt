@@ -1,5 +1,4 @@
-use Rattle.std.proofs.Common.{arith, ◌≡◌, ◌<◌, ◌≤◌, ℕ, None, ap, sym, ◌∙◌, subst, length, get_or, true}
-use Rattle.dpl_laminar.specs.Families.{has}
+use Rattle.std.proofs.Common.{arith, ◌≡◌, ◌<◌, None, ap, sym, ◌∙◌, subst, true}
 use Rattle.dpl_laminar.specs.Storing.{sets_of}
 use Rattle.dpl_laminar.proofs.Numbers.{place_in}
 use Rattle.dpl_tree.specs.Views.{mate_in}
